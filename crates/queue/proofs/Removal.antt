@@ -1,0 +1,86 @@
+-- The loop of `remove`: each turn looks at one entry, and stores it at the end of those kept unless it is the slot. Assumes nothing.
+use mathlib.Core.Path.{_≡_, refl, sym, ap, _∙_}
+use mathlib.Core.List.{List, [], _∷_, _++_, append-assoc, append-nil}
+use Prim.Native.Nat.{ℕ, zero, suc, _+_, _-_, _%_, _≤_, _<_}
+use native.Mathlib.Nat.{add-zero, sub-zero}
+use native.Mathlib.Numerals.{add-one}
+use native.Mathlib.Omega.{arith}
+use lib.ListN.{length, getD, set, length-set}
+use Rattle.queue.specs.declared.BandQueue.{BandQueue}
+use Rattle.queue.specs.Rules.{without}
+use Rattle.queue.specs.Stored.{window, entries, WellFormed, Holds}
+use Rattle.queue.proofs.Lists.{without-same, without-other}
+use Rattle.queue.proofs.Ring.{window-next, window-apart, window-store}
+
+-- the ring's entries from `place` on are still to be looked at, and of those before it `kept` were kept, at the front:
+-- those and what will be kept of the rest are what the removal asks for
+pub record Removing (q : BandQueue) (slot : ℕ) (ring : List ℕ) (kept place : ℕ) : Type 0 where
+  pub whole : length ring ≡ 64
+  pub kept-le : kept ≤ place
+  pub place-le : place ≤ q .len
+  pub left : window ring (q .head) kept ++ without slot (window ring (q .head + place) (q .len - place)) ≡ without slot (entries q)
+
+module _ (q : BandQueue) (slot : ℕ) (good : WellFormed q) where
+  pub removing-start : Removing q slot (q .ring) 0 0
+  unfolding window entries
+  removing-start = record {
+    whole = good .whole;
+    kept-le = omega arith;
+    place-le = omega arith;
+    left = λ i. without slot (window (q .ring) (add-zero (q .head) i) (sub-zero (q .len) i));
+  }
+
+  module _ (ring : List ℕ) (kept place : ℕ) (t : Removing q slot ring kept place) (more : place < q .len) where
+    -- the entry looked at, and those behind it
+    entry : ℕ
+    entry = getD ring ((q .head + place) % 64) 0
+
+    behind : List ℕ
+    behind = window ring (q .head + (place + 1)) (q .len - (place + 1))
+
+    left-next : window ring (q .head) kept ++ without slot (entry ∷ behind) ≡ without slot (entries q)
+    unfolding entry behind
+    left-next = ap (λ (l : List ℕ). window ring (q .head) kept ++ without slot l) (sym (window-next ring (q .head) (q .len) place more)) ∙ t .left
+
+    pub removing-drop : getD ring ((q .head + place) % 64) 0 ≡ slot → Removing q slot ring kept (place + 1)
+    unfolding entry behind
+    removing-drop is = record {
+      whole = t .whole;
+      kept-le = omega arith;
+      place-le = omega arith;
+      left = ap (λ (l : List ℕ). window ring (q .head) kept ++ l) (sym (without-same slot entry behind is)) ∙ left-next;
+    }
+
+    pub removing-keep : (getD ring ((q .head + place) % 64) 0 ≡ slot → ⊥)
+        → Removing q slot (set ring ((q .head + kept) % 64) (getD ring ((q .head + place) % 64) 0)) (kept + 1) (place + 1)
+    unfolding entry behind
+    removing-keep is =
+        let at : ℕ = (q .head + kept) % 64 in
+        let stored : window (set ring at entry) (q .head) (kept + 1) ≡ window ring (q .head) kept ++ entry ∷ [] =
+        ap (window (set ring at entry) (q .head)) (add-one kept) ∙ window-store ring (q .head) kept entry (t .whole) (omega arith) in
+        let apart : window (set ring at entry) (q .head + (place + 1)) (q .len - (place + 1)) ≡ behind =
+        window-apart ring (q .head + (place + 1)) (q .len - (place + 1)) at entry (λ j l e. omega arith) in
+        record {
+          whole = length-set ring at entry ∙ t .whole;
+          kept-le = omega arith;
+          place-le = omega arith;
+          left =
+              (λ i. stored i ++ without slot (apart i))
+              ∙ append-assoc (window ring (q .head) kept) (entry ∷ []) (without slot behind)
+              ∙ ap (λ (l : List ℕ). window ring (q .head) kept ++ l) (sym (without-other slot entry behind is))
+              ∙ left-next;
+        }
+
+  pub removed : (ring : List ℕ) (head kept place : ℕ) → head ≡ q .head → Removing q slot ring kept place → q .len ≤ place
+      → Holds (record { ring = ring; head = head; len = kept }) (without slot (entries q))
+  unfolding window entries without
+  removed ring head kept place same t end =
+      let none : q .len - place ≡ 0 = omega arith in
+      record {
+        well-formed = record { whole = t .whole; head-in = omega arith; len-in = omega arith };
+        entries-are =
+            ap (λ (h : ℕ). window ring h kept) same
+            ∙ sym (append-nil (window ring (q .head) kept))
+            ∙ ap (λ (n : ℕ). window ring (q .head) kept ++ without slot (window ring (q .head + place) n)) (sym none)
+            ∙ t .left;
+      }

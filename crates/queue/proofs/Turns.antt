@@ -1,0 +1,62 @@
+-- The loop of `take_at`: each turn sends the front to the tail. Assumes nothing.
+use mathlib.Core.Path.{_≡_, refl, sym, ap, _∙_}
+use mathlib.Core.List.{List, [], _∷_, _++_, append-nil}
+use Prim.Native.Nat.{ℕ, zero, suc, _+_, _-_, _%_, _≤_, _<_}
+use native.Mathlib.Numerals.{add-one}
+use native.Mathlib.Omega.{arith}
+use lib.ListN.{length, getD, set, take, drop, length-set}
+use Rattle.records.specs.declared.ids.Slot.{Slot}
+use Rattle.records.specs.declared.ids.SlotOption.the-variants.{None, Some}
+use Rattle.queue.specs.declared.BandQueue.{BandQueue}
+use Rattle.queue.specs.Answers.{Take}
+use Rattle.queue.specs.Rules.{takenAt}
+use Rattle.queue.specs.Stored.{window, entries, WellFormed}
+use Rattle.queue.proofs.Lists.{entryAt-in, takenAt-past, turned-front, turned-more}
+use Rattle.queue.proofs.Ring.{window-front, window-behind, window-turn}
+use Rattle.queue.proofs.Places.{length-entries, entry-past}
+
+-- `moved` of q's entries have gone from the front to the tail; the front stands at `head` of the ring
+pub record Turned (q : BandQueue) (moved : ℕ) (ring : List ℕ) (head : ℕ) : Type 0 where
+  pub whole : length ring ≡ 64
+  pub head-in : head < 64
+  pub turned : window ring head (q .len) ≡ drop moved (entries q) ++ take moved (entries q)
+
+module _ (q : BandQueue) (good : WellFormed q) where
+  -- past the tail nothing leaves and nothing moves
+  pub taken-none : (place : ℕ) → q .len ≤ place → Take q place (record { slot = None; queue = q })
+  taken-none place past = record {
+    slot-is = entry-past q place past;
+    queue-is = record { well-formed = good; entries-are = sym (takenAt-past place (entries q) (omega (arith, length-entries q))) };
+  }
+
+  pub turned-none : Turned q 0 (q .ring) (q .head)
+  unfolding entries
+  turned-none = record { whole = good .whole; head-in = good .head-in; turned = sym (append-nil (entries q)) }
+
+  module _ (moved : ℕ) (ring : List ℕ) (head : ℕ) (t : Turned q moved ring head) (more : moved < q .len) where
+    -- the front is the entry at place `moved`
+    front : window ring head (q .len) ≡ getD (entries q) moved 0 ∷ takenAt moved (entries q)
+    front = t .turned ∙ turned-front moved (entries q) (omega (arith, length-entries q))
+
+    pub turned-one : Turned q (moved + 1) (set ring ((head + q .len) % 64) (getD ring head 0)) ((head + 1) % 64)
+    turned-one = record {
+      whole = length-set ring ((head + q .len) % 64) (getD ring head 0) ∙ t .whole;
+      head-in = omega arith;
+      turned =
+          window-turn ring head (q .len) (t .whole) (t .head-in) (good .len-in) front
+          ∙ turned-more moved (entries q) (omega (arith, length-entries q))
+          ∙ ap (λ (k : ℕ). drop k (entries q) ++ take k (entries q)) (sym (add-one moved));
+    }
+
+    pub turned-taken : (slot : Slot) → slot .0 ≡ getD ring head 0
+        → Take q moved (record { slot = Some slot; queue = record { ring = ring; head = (head + 1) % 64; len = q .len - 1 } })
+    unfolding entries
+    turned-taken slot is = record {
+      slot-is =
+          ap (λ (e : ℕ). Some (record { 0 = e })) (is ∙ window-front ring head (q .len) (t .head-in) front)
+          ∙ sym (entryAt-in moved (entries q) (omega (arith, length-entries q)));
+      queue-is = record {
+        well-formed = record { whole = t .whole; head-in = omega arith; len-in = omega arith };
+        entries-are = window-behind ring head (q .len) front;
+      };
+    }

@@ -1,0 +1,38 @@
+-- Document 01's rules for a queue, on its list of entries from front to tail.
+use mathlib.Core.Bool.{Bool, cond, not, _&&_}
+use mathlib.Core.List.{List, [], _∷_, _++_}
+use Prim.Native.Nat.{ℕ, suc, _+_}
+use lib.Dec.{ltb, leb, eqb}
+use lib.ListN.{length, getD, take, drop}
+use Rattle.records.specs.declared.ids.SlotOption.{SlotOption}
+use Rattle.records.specs.declared.ids.SlotOption.the-variants.{None, Some}
+
+-- "64 entries stand in it"
+abbrev pub full : List ℕ → Bool
+full es = leb 64 (length es)
+
+-- a push is taken: the number is a slot of the table, and the queue has room
+abbrev pub takes : ℕ → List ℕ → Bool
+takes slot es = ltb slot 64 && not (full es)
+
+-- "goes to the tail of its band"; a push that is not taken changes nothing
+unfoldable pub pushed : ℕ → List ℕ → List ℕ
+pushed slot es = cond (takes slot es) (es ++ slot ∷ []) es
+
+-- "Removal keeps the order of the rest"
+unfoldable pub without : ℕ → List ℕ → List ℕ
+without slot [] = []
+without slot (e ∷ es) = cond (eqb e slot) (without slot es) (e ∷ without slot es)
+
+-- the entry at a place from 0 at the front, or none past the tail
+unfoldable pub entryAt : ℕ → List ℕ → SlotOption
+entryAt place es = cond (ltb place (length es)) (Some (record { 0 = getD es place 0 })) None
+
+-- rule P: "Entries before it move to that queue's tail in their order and it leaves."
+unfoldable pub takenAt : ℕ → List ℕ → List ℕ
+takenAt place es = drop (suc place) es ++ take place es
+
+-- how often a slot stands in a list of entries
+unfoldable pub count : ℕ → List ℕ → ℕ
+count slot [] = 0
+count slot (e ∷ es) = cond (eqb e slot) 1 0 + count slot es

@@ -1,0 +1,4 @@
+-- Laws about the definitions of specs/, for the proofs of this crate and of those above.
+pub mod Bands
+pub mod Masks
+pub mod States
