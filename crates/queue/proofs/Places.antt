@@ -8,7 +8,7 @@ use Rattle.records.specs.declared.ids.SlotOption.the-variants.{None, Some}
 use Rattle.queue.specs.declared.BandQueue.{BandQueue}
 use Rattle.queue.specs.Rules.{entryAt}
 use Rattle.queue.specs.Stored.{entries}
-use Rattle.queue.proofs.Lists.{entryAt-in, entryAt-past}
+use Rattle.queue.proofs.Rules.{entryAt-in, entryAt-past}
 use Rattle.queue.proofs.Ring.{length-window, window-at}
 
 module _ (q : BandQueue) where

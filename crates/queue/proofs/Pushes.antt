@@ -1,19 +1,17 @@
 -- The two answers of a push. Assumes nothing.
 use mathlib.Core.Path.{_≡_, sym, ap, _∙_}
-use mathlib.Core.Bool.{Bool, true, false, not, _&&_, and-false}
-use mathlib.Core.List.{List, [], _∷_, _++_}
-use Prim.Native.Nat.{ℕ, suc, _+_, _%_, _≤_, _<_}
+use mathlib.Core.Bool.{true, false, not}
+use Prim.Native.Nat.{_+_, _%_, _≤_, _<_}
 use native.Mathlib.Numerals.{add-one}
 use native.Mathlib.Omega.{arith}
-use borrow.Author.Tests.{lt-ltb, le-ltb, le-leb, lt-leb}
-use lib.Dec.{ltb, leb}
+use borrow.Author.Tests.{le-ltb, le-leb, lt-leb}
 use lib.ListN.{length, set, length-set}
 use Rattle.records.specs.declared.ids.Slot.{Slot}
 use Rattle.queue.specs.declared.BandQueue.{BandQueue}
 use Rattle.queue.specs.Answers.{Push}
 use Rattle.queue.specs.Rules.{takes}
 use Rattle.queue.specs.Stored.{window, entries, WellFormed}
-use Rattle.queue.proofs.Lists.{pushed-taken, pushed-refused}
+use Rattle.queue.proofs.Rules.{takes-slot, pushed-taken, pushed-refused}
 use Rattle.queue.proofs.Ring.{window-store}
 use Rattle.queue.proofs.Places.{length-entries}
 
@@ -28,24 +26,24 @@ module _ (q : BandQueue) (slot : Slot) (good : WellFormed q) where
   pub push-no-slot : 64 ≤ slot .0 → Push q slot (record { ok = false; queue = q })
   push-no-slot past = refused (rw (le-ltb (slot .0) 64 past))
 
-  -- 64 entries stand in it
-  pub push-full : 64 ≤ q .len → Push q slot (record { ok = false; queue = q })
-  push-full stands =
-      refused (ap (λ (b : Bool). ltb (slot .0) 64 && not b) (le-leb 64 (length (entries q)) (omega (arith, length-entries q))) ∙ and-false (ltb (slot .0) 64))
+  module _ (there : slot .0 < 64) where
+    -- 64 entries stand in it
+    pub push-full : 64 ≤ q .len → Push q slot (record { ok = false; queue = q })
+    push-full stands = refused (takes-slot (slot .0) (entries q) there ∙ ap not (le-leb 64 (length (entries q)) (omega (arith, length-entries q))))
 
-  pub push-done : slot .0 < 64 → q .len < 64
-      → Push q slot (record { ok = true; queue = record { ring = set (q .ring) ((q .head + q .len) % 64) (slot .0); head = q .head; len = q .len + 1 } })
-  unfolding entries
-  push-done there room =
-      let taken : takes (slot .0) (entries q) ≡ true =
-      (λ i. lt-ltb (slot .0) 64 there i && not (lt-leb 64 (length (entries q)) (omega (arith, length-entries q)) i)) in
-      record {
-        ok-is = sym taken;
-        queue-is = record {
-          well-formed = record { whole = length-set (q .ring) _ _ ∙ good .whole; head-in = good .head-in; len-in = omega arith };
-          entries-are =
-              ap (window (set (q .ring) ((q .head + q .len) % 64) (slot .0)) (q .head)) (add-one (q .len))
-              ∙ window-store (q .ring) (q .head) (q .len) (slot .0) (good .whole) room
-              ∙ sym (pushed-taken (slot .0) (entries q) taken);
-        };
-      }
+    pub push-done : q .len < 64
+        → Push q slot (record { ok = true; queue = record { ring = set (q .ring) ((q .head + q .len) % 64) (slot .0); head = q .head; len = q .len + 1 } })
+    unfolding entries
+    push-done room =
+        let taken : takes (slot .0) (entries q) ≡ true =
+        takes-slot (slot .0) (entries q) there ∙ ap not (lt-leb 64 (length (entries q)) (omega (arith, length-entries q))) in
+        record {
+          ok-is = sym taken;
+          queue-is = record {
+            well-formed = record { whole = length-set (q .ring) _ _ ∙ good .whole; head-in = good .head-in; len-in = omega arith };
+            entries-are =
+                ap (window (set (q .ring) ((q .head + q .len) % 64) (slot .0)) (q .head)) (add-one (q .len))
+                ∙ window-store (q .ring) (q .head) (q .len) (slot .0) (good .whole) room
+                ∙ sym (pushed-taken (slot .0) (entries q) taken);
+          };
+        }

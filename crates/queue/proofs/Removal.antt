@@ -1,7 +1,7 @@
 -- The loop of `remove`: each turn looks at one entry, and stores it at the end of those kept unless it is the slot. Assumes nothing.
-use mathlib.Core.Path.{_≡_, refl, sym, ap, _∙_}
+use mathlib.Core.Path.{_≡_, sym, ap, _∙_}
 use mathlib.Core.List.{List, [], _∷_, _++_, append-assoc, append-nil}
-use Prim.Native.Nat.{ℕ, zero, suc, _+_, _-_, _%_, _≤_, _<_}
+use Prim.Native.Nat.{ℕ, _+_, _-_, _%_, _≤_, _<_}
 use native.Mathlib.Nat.{add-zero, sub-zero}
 use native.Mathlib.Numerals.{add-one}
 use native.Mathlib.Omega.{arith}
@@ -9,7 +9,7 @@ use lib.ListN.{length, getD, set, length-set}
 use Rattle.queue.specs.declared.BandQueue.{BandQueue}
 use Rattle.queue.specs.Rules.{without}
 use Rattle.queue.specs.Stored.{window, entries, WellFormed, Holds}
-use Rattle.queue.proofs.Lists.{without-same, without-other}
+use Rattle.queue.proofs.Rules.{without-same, without-other}
 use Rattle.queue.proofs.Ring.{window-next, window-apart, window-store}
 
 -- the ring's entries from `place` on are still to be looked at, and of those before it `kept` were kept, at the front:

@@ -22,7 +22,7 @@ abbrev pub bandAt : ℕ → BandOption
 bandAt n = getD bands n None
 
 -- r is the band's code, and so a place among three queues
-pub record BandCode (q : QoSClass) (r : ℕ) : Type 0 where
+pub record IsBandCode (q : QoSClass) (r : ℕ) : Type 0 where
   pub is : r ≡ bandCode q
   pub small : r < 3
 

@@ -1,6 +1,6 @@
 // The three bands, most urgent first, with their codes and their slices.
 ghost use mathlib.Core.Path.{_≡_};
-ghost use Rattle.records.specs.Band.{BandCode, bandAt, slice};
+ghost use Rattle.records.specs.Band.{IsBandCode, bandAt, slice};
 
 pub enum QoSClass {
     UserInteractive,
@@ -17,7 +17,7 @@ pub enum BandOption {
 impl QoSClass {
     // The band's code, 0 to 2: its byte in a record, and its queue's place.
     pub fn code(self) -> u8
-        ensures { λ r. ⌜ BandCode self r ⌝ }
+        ensures { λ r. ⌜ IsBandCode self r ⌝ }
     {
         match self {
             QoSClass::UserInteractive => 0,

@@ -8,7 +8,7 @@ returns : tie.Need-returns
 returns c = push-no-slot _ _ (c .before .pre) (c .if1 .taken)
 
 returns-2 : tie.Need-returns-2
-returns-2 c = push-full _ _ (c .before .before .pre) (c .if2 .taken)
+returns-2 c = push-full _ _ (c .before .before .pre) (c .before .if1 .left) (c .if2 .taken)
 
 cast-self : tie.Need-cast-self
 cast-self c = search needs
