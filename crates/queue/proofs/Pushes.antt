@@ -1,4 +1,4 @@
--- The two answers of a push. Assumes nothing.
+-- The answers of a push: refused for a number that is no slot, refused for a full queue, and taken. Assumes nothing.
 use mathlib.Core.Path.{_≡_, sym, ap, _∙_}
 use mathlib.Core.Bool.{true, false, not}
 use Prim.Native.Nat.{_+_, _%_, _≤_, _<_}
@@ -31,19 +31,19 @@ module _ (q : BandQueue) (slot : Slot) (good : WellFormed q) where
     pub push-full : 64 ≤ q .len → Push q slot (record { ok = false; queue = q })
     push-full stands = refused (takes-slot (slot .0) (entries q) there ∙ ap not (le-leb 64 (length (entries q)) (omega (arith, length-entries q))))
 
+    taken : q .len < 64 → takes (slot .0) (entries q) ≡ true
+    taken room = takes-slot (slot .0) (entries q) there ∙ ap not (lt-leb 64 (length (entries q)) (omega (arith, length-entries q)))
+
     pub push-done : q .len < 64
         → Push q slot (record { ok = true; queue = record { ring = set (q .ring) ((q .head + q .len) % 64) (slot .0); head = q .head; len = q .len + 1 } })
     unfolding entries
-    push-done room =
-        let taken : takes (slot .0) (entries q) ≡ true =
-        takes-slot (slot .0) (entries q) there ∙ ap not (lt-leb 64 (length (entries q)) (omega (arith, length-entries q))) in
-        record {
-          ok-is = sym taken;
-          queue-is = record {
-            well-formed = record { whole = length-set (q .ring) _ _ ∙ good .whole; head-in = good .head-in; len-in = omega arith };
-            entries-are =
-                ap (window (set (q .ring) ((q .head + q .len) % 64) (slot .0)) (q .head)) (add-one (q .len))
-                ∙ window-store (q .ring) (q .head) (q .len) (slot .0) (good .whole) room
-                ∙ sym (pushed-taken (slot .0) (entries q) taken);
-          };
-        }
+    push-done room = record {
+      ok-is = sym (taken room);
+      queue-is = record {
+        well-formed = record { whole = length-set (q .ring) _ _ ∙ good .whole; head-in = good .head-in; len-in = omega arith };
+        entries-are =
+            ap (window (set (q .ring) ((q .head + q .len) % 64) (slot .0)) (q .head)) (add-one (q .len))
+            ∙ window-store (q .ring) (q .head) (q .len) (slot .0) (good .whole) room
+            ∙ sym (pushed-taken (slot .0) (entries q) (taken room));
+      };
+    }

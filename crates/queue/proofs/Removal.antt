@@ -51,25 +51,31 @@ module _ (q : BandQueue) (slot : ℕ) (good : WellFormed q) where
       left = ap (λ (l : List ℕ). window ring (q .head) kept ++ l) (sym (without-same slot entry behind is)) ∙ left-next;
     }
 
-    pub removing-keep : (getD ring ((q .head + place) % 64) 0 ≡ slot → ⊥)
-        → Removing q slot (set ring ((q .head + kept) % 64) (getD ring ((q .head + place) % 64) 0)) (kept + 1) (place + 1)
-    unfolding entry behind
-    removing-keep is =
-        let at : ℕ = (q .head + kept) % 64 in
-        let stored : window (set ring at entry) (q .head) (kept + 1) ≡ window ring (q .head) kept ++ entry ∷ [] =
-        ap (window (set ring at entry) (q .head)) (add-one kept) ∙ window-store ring (q .head) kept entry (t .whole) (omega arith) in
-        let apart : window (set ring at entry) (q .head + (place + 1)) (q .len - (place + 1)) ≡ behind =
-        window-apart ring (q .head + (place + 1)) (q .len - (place + 1)) at entry (λ j l e. omega arith) in
-        record {
-          whole = length-set ring at entry ∙ t .whole;
-          kept-le = omega arith;
-          place-le = omega arith;
-          left =
-              (λ i. stored i ++ without slot (apart i))
-              ∙ append-assoc (window ring (q .head) kept) (entry ∷ []) (without slot behind)
-              ∙ ap (λ (l : List ℕ). window ring (q .head) kept ++ l) (sym (without-other slot entry behind is))
-              ∙ left-next;
-        }
+    -- the entry is stored behind those kept before it, and what is still to be looked at is not touched
+    module _ (other : getD ring ((q .head + place) % 64) 0 ≡ slot → ⊥) where
+      after : List ℕ
+      after = set ring ((q .head + kept) % 64) (getD ring ((q .head + place) % 64) 0)
+
+      kept-one : window after (q .head) (kept + 1) ≡ window ring (q .head) kept ++ entry ∷ []
+      unfolding entry after
+      kept-one = ap (window after (q .head)) (add-one kept) ∙ window-store ring (q .head) kept entry (t .whole) (omega arith)
+
+      rest-same : window after (q .head + (place + 1)) (q .len - (place + 1)) ≡ behind
+      unfolding behind after
+      rest-same = window-apart ring (q .head + (place + 1)) (q .len - (place + 1)) _ _ (λ j l e. omega arith)
+
+      pub removing-keep : Removing q slot (set ring ((q .head + kept) % 64) (getD ring ((q .head + place) % 64) 0)) (kept + 1) (place + 1)
+      unfolding entry behind after
+      removing-keep = record {
+        whole = length-set ring _ _ ∙ t .whole;
+        kept-le = omega arith;
+        place-le = omega arith;
+        left =
+            (λ i. kept-one i ++ without slot (rest-same i))
+            ∙ append-assoc (window ring (q .head) kept) (entry ∷ []) (without slot behind)
+            ∙ ap (λ (l : List ℕ). window ring (q .head) kept ++ l) (sym (without-other slot entry behind other))
+            ∙ left-next;
+      }
 
   pub removed : (ring : List ℕ) (head kept place : ℕ) → head ≡ q .head → Removing q slot ring kept place → q .len ≤ place
       → Holds (record { ring = ring; head = head; len = kept }) (without slot (entries q))

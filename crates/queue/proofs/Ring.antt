@@ -1,13 +1,17 @@
--- Laws of `window`, the part of a ring that a queue's entries stand in: its length, a place in it, where it begins, one more at its end, and a store.
+-- Laws of `window`, the part of a ring that a queue's entries stand in. In order: its length, where it begins, a place in it, one more at its
+-- end, what is left of it from a place on, a store outside it and at its end; then its front: read, leaving, and going to the tail.
 -- Assumes nothing.
 use mathlib.Core.Path.{_≡_, refl, sym, ap, _∙_}
 use mathlib.Core.List.{List, [], _∷_, _++_}
 use Prim.Native.Nat.{ℕ, zero, suc, _+_, _-_, _%_, _≤_, _<_, suc-le-suc}
-use native.Mathlib.Nat.{not-suc-le-zero, le-of-suc-le-suc, add-zero, suc-add, add-suc}
+use native.Mathlib.Nat.{not-suc-le-zero, le-of-suc-le-suc, add-zero}
 use native.Mathlib.Omega.{arith}
 use lib.ListN.{length, getD, set, drop}
 use lib.Seq.{getD-set-same, getD-set-other}
 use Rattle.queue.specs.Stored.{window}
+
+next-place : (h k : ℕ) → suc h + k ≡ h + suc k
+next-place h k = omega arith
 
 module _ (r : List ℕ) where
   pub length-window : (h n : ℕ) → length (window r h n) ≡ n
@@ -26,13 +30,15 @@ module _ (r : List ℕ) where
   window-at h zero k l = absurd (not-suc-le-zero l)
   window-at h (suc n) zero l = ap (λ (p : ℕ). getD r (p % 64) 0) (sym (add-zero h))
   window-at h (suc n) (suc k) l =
-      window-at (suc h) n k (le-of-suc-le-suc l) ∙ ap (λ (p : ℕ). getD r (p % 64) 0) (suc-add h k ∙ sym (add-suc h k))
+      window-at (suc h) n k (le-of-suc-le-suc l) ∙ ap (λ (p : ℕ). getD r (p % 64) 0) (next-place h k)
 
   -- one more at the end
   pub window-more : (h n : ℕ) → window r h (suc n) ≡ window r h n ++ getD r ((h + n) % 64) 0 ∷ []
   unfolding window
   window-more h zero = ap (λ (p : ℕ). getD r (p % 64) 0 ∷ []) (sym (add-zero h))
-  window-more h (suc n) = λ i. getD r (h % 64) 0 ∷ (window-more (suc h) n ∙ ap (λ (p : ℕ). window r (suc h) n ++ getD r (p % 64) 0 ∷ []) (suc-add h n ∙ sym (add-suc h n))) i
+  window-more h (suc n) =
+      ap (λ (l : List ℕ). getD r (h % 64) 0 ∷ l)
+      (window-more (suc h) n ∙ ap (λ (p : ℕ). window r (suc h) n ++ getD r (p % 64) 0 ∷ []) (next-place h n))
 
   -- what is left of it from place k on: the number there, and what is left behind it
   pub window-next : (h n k : ℕ) → k < n → window r (h + k) (n - k) ≡ getD r ((h + k) % 64) 0 ∷ window r (h + (k + 1)) (n - (k + 1))
@@ -48,7 +54,7 @@ module _ (r : List ℕ) where
   window-apart h zero p v apart = refl
   window-apart h (suc n) p v apart = λ i.
       getD-set-other r p (h % 64) v 0 (λ e. apart 0 (omega arith) (ap (λ (k : ℕ). k % 64) (add-zero h) ∙ e)) i
-      ∷ window-apart (suc h) n p v (λ j l e. apart (suc j) (suc-le-suc l) (ap (λ (k : ℕ). k % 64) (add-suc h j ∙ sym (suc-add h j)) ∙ e)) i
+      ∷ window-apart (suc h) n p v (λ j l e. apart (suc j) (suc-le-suc l) (ap (λ (k : ℕ). k % 64) (sym (next-place h j)) ∙ e)) i
 
 -- a store at its end
 pub window-store : (r : List ℕ) (h n v : ℕ) → length r ≡ 64 → n < 64 → window (set r ((h + n) % 64) v) h (suc n) ≡ window r h n ++ v ∷ []
@@ -78,6 +84,6 @@ window-turn r h zero whole l m w = absurd (omega (arith, ap length w))
 window-turn r h (suc n) whole l m w =
     let front : ℕ = getD r h 0 in
     window-round (set r ((h + suc n) % 64) front) ((h + 1) % 64) (suc h) (suc n) (omega arith)
-    ∙ ap (λ (p : ℕ). window (set r (p % 64) front) (suc h) (suc n)) (add-suc h n ∙ sym (suc-add h n))
+    ∙ ap (λ (p : ℕ). window (set r (p % 64) front) (suc h) (suc n)) (sym (next-place h n))
     ∙ window-store r (suc h) n front whole (omega arith)
     ∙ λ i. drop 1 (w i) ++ window-front r h (suc n) l w i ∷ []

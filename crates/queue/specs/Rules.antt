@@ -15,24 +15,24 @@ full es = leb 64 (length es)
 abbrev pub takes : ℕ → List ℕ → Bool
 takes slot es = ltb slot 64 && not (full es)
 
--- "goes to the tail of its band"; a push that is not taken changes nothing
+-- enqueue: "goes to the tail of its band"; a push that is not taken changes nothing
 unfoldable pub pushed : ℕ → List ℕ → List ℕ
 pushed slot es = cond (takes slot es) (es ++ slot ∷ []) es
 
--- "Removal keeps the order of the rest"
+-- "taken out of the queues": every entry of the slot goes, and "Removal keeps the order of the rest"
 unfoldable pub without : ℕ → List ℕ → List ℕ
 without slot [] = []
 without slot (e ∷ es) = cond (eqb e slot) (without slot es) (e ∷ without slot es)
 
--- the entry at a place from 0 at the front, or none past the tail
+-- the entry at a place, counted from 0 at the front; none past the tail
 unfoldable pub entryAt : ℕ → List ℕ → SlotOption
 entryAt place es = cond (ltb place (length es)) (Some (record { 0 = getD es place 0 })) None
 
--- rule P: "Entries before it move to that queue's tail in their order and it leaves."
+-- rule P: "Entries before it move to that queue's tail in their order and it leaves." Past the tail this is the list itself.
 unfoldable pub takenAt : ℕ → List ℕ → List ℕ
 takenAt place es = drop (suc place) es ++ take place es
 
--- how often a slot stands in a list of entries
+-- how often a slot stands in the list: of a Ready slot, acceptance asks that it "stands in the queues once"
 unfoldable pub count : ℕ → List ℕ → ℕ
 count slot [] = 0
 count slot (e ∷ es) = cond (eqb e slot) 1 0 + count slot es

@@ -1,5 +1,5 @@
 -- Document 01, "Task record, queues, holders": "A queue is its entries from front to tail; how they are stored is no part of the state."
--- This file says which entries a stored queue has. Nothing above this crate opens it.
+-- This file says which entries a stored queue has. The crates above cite `entries` and `WellFormed` and look into neither.
 use mathlib.Core.Path.{_≡_}
 use mathlib.Core.List.{List, [], _∷_}
 use Prim.Native.Nat.{ℕ, zero, suc, _%_, _≤_, _<_}
@@ -15,7 +15,7 @@ window ring h (suc n) = getD ring (h % 64) 0 ∷ window ring (suc h) n
 unfoldable pub entries : BandQueue → List ℕ
 entries q = window (q .ring) (q .head) (q .len)
 
--- a queue as `new` and every call leave it
+-- a queue as `new` and every call leave it: the ring has its 64 places, the front is one of them, and no more entries stand in it
 pub record WellFormed (q : BandQueue) : Type 0 where
   pub whole : length (q .ring) ≡ 64
   pub head-in : q .head < 64

@@ -1,7 +1,8 @@
 // One band's queue of waiting slots, in a ring of 64 places that nothing above this crate looks into.
 //
 // What a queue holds is `entries`, its slots from front to tail; every promise below speaks of that list alone. A call
-// presumes at most that the queue is well formed, as `new` and every call here leave it.
+// presumes at most that the queue is well formed, as `new` and every call here leave it. The laws for the crates above
+// are in proofs/Rules.antt, Counts.antt and Stored.antt.
 ghost use mathlib.Core.Path.{_≡_};
 ghost use lib.ListN.{length};
 ghost use mathlib.Core.List.{[]};
@@ -43,8 +44,8 @@ impl BandQueue {
         }
     }
 
-    // The slot goes to the tail. Refused, with the queue as it was, where 64 entries stand in it, and for a number that
-    // is no slot of the table.
+    // The slot goes to the tail. Refused, with the entries as they were, for a number that is no slot of the table and
+    // where 64 entries stand in the queue.
     pub fn push(mut self, slot: Slot) -> Pushed
         requires { ⌜ WellFormed self ⌝ }
         ensures { λ r. ⌜ Push self slot r ⌝ }
@@ -80,7 +81,8 @@ impl BandQueue {
         self.take_at(0)
     }
 
-    // The slot leaves wherever it stands, and the rest keep their order; each entry behind it moves up by one place.
+    // The slot leaves wherever it stands, and the rest keep their order. The gap is closed in the ring itself: what is
+    // kept moves up behind what was kept before it.
     pub fn remove(mut self, slot: Slot) -> Self
         requires { ⌜ WellFormed self ⌝ }
         ensures { λ r. ⌜ Holds r (without (slot .0) (entries self)) ⌝ }
@@ -152,7 +154,7 @@ impl BandQueue {
     }
 }
 
-// The slot that a place of the ring stands for.
+// The slot that a number of the ring stands for.
 fn slot_of(entry: u8) -> Slot
     ensures { λ r. ⌜ r .0 ≡ entry ⌝ }
 {
