@@ -9,12 +9,24 @@ use records::Slot;
 use records::SlotOption;
 
 fn main() {
+    refusals();
+    full_ring(picks());
+}
+
+// An empty queue: nothing to take, and 64 is no slot.
+fn refusals() {
     let empty = BandQueue::new();
     show(b"new", empty);
     show_taken(b"pop", empty.pop());
     let stranger = empty.push(Slot(MAX_TASKS));
     show(b"push 64", stranger.queue);
-    let four = fill(empty, 4);
+}
+
+// Case K4 on one queue, then a place past the tail and removals. The queue that is left has gone round part of the ring.
+fn picks() -> BandQueue
+    ensures { λ r. ⌜ WellFormed r ⌝ }
+{
+    let four = fill(BandQueue::new(), 4);
     show(b"push 0 to 3", four);
     let picked = four.take_at(2);
     show_taken(b"take at 2", picked);
@@ -25,7 +37,14 @@ fn main() {
     show(b"remove 9", two.remove(Slot(9)));
     let front = two.pop();
     show_taken(b"pop", front);
-    let full = fill(front.queue, MAX_TASKS);
+    front.queue
+}
+
+// A full queue: the push of slot 63 finds 64 entries, the last entry is taken, and a slot that stands twice is removed.
+fn full_ring(queue: BandQueue)
+    requires { ⌜ WellFormed queue ⌝ }
+{
+    let full = fill(queue, MAX_TASKS);
     show(b"push 0 to 63", full);
     show_taken(b"take at 63", full.take_at(63));
     show(b"remove 1", full.remove(Slot(1)));

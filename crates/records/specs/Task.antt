@@ -40,7 +40,7 @@ created tid band context cr3 rsp0 = record {
   «in_use» = true;
 }
 
--- the record with the fields that calls change as given, all else as it was
+-- the record with the fields that calls change as given, all else as it was; then one field of those changed
 abbrev pub changed : TaskControlBlock → ThreadState → ℕ → ℕ → ℕ → Bool → TaskControlBlock
 changed t state mask budget consumed inUse = record {
   tid = t .tid;
