@@ -1,5 +1,5 @@
 -- The stored queue's length, and the entry at one of its places. Assumes nothing.
-use mathlib.Core.Path.{_≡_, sym, ap, _∙_}
+use mathlib.Core.Path.{_≡_, sym, _∙_}
 use Prim.Native.Nat.{ℕ, _+_, _%_, _≤_, _<_}
 use native.Mathlib.Omega.{arith}
 use lib.ListN.{length, getD}
@@ -22,5 +22,4 @@ module _ (q : BandQueue) where
   pub entry-in : (place : ℕ) (slot : Slot) → place < q .len → slot .0 ≡ getD (q .ring) ((q .head + place) % 64) 0 → Some slot ≡ entryAt place (entries q)
   unfolding entries
   entry-in place slot l is =
-      ap (λ (e : ℕ). Some (record { 0 = e })) (is ∙ sym (window-at (q .ring) (q .head) (q .len) place l))
-      ∙ sym (entryAt-in place (entries q) (omega (arith, length-entries)))
+      sym (entryAt-in place (entries q) slot (omega (arith, length-entries)) (window-at (q .ring) (q .head) (q .len) place l ∙ sym is))

@@ -32,18 +32,16 @@ module _ (q : BandQueue) (slot : ℕ) (good : WellFormed q) where
 
   module _ (ring : List ℕ) (kept place : ℕ) (t : Removing q slot ring kept place) (more : place < q .len) where
     -- the entry looked at, and those behind it
-    entry : ℕ
+    abbrev entry : ℕ
     entry = getD ring ((q .head + place) % 64) 0
 
-    behind : List ℕ
+    abbrev behind : List ℕ
     behind = window ring (q .head + (place + 1)) (q .len - (place + 1))
 
     left-next : window ring (q .head) kept ++ without slot (entry ∷ behind) ≡ without slot (entries q)
-    unfolding entry behind
     left-next = ap (λ (l : List ℕ). window ring (q .head) kept ++ without slot l) (sym (window-next ring (q .head) (q .len) place more)) ∙ t .left
 
-    pub removing-drop : getD ring ((q .head + place) % 64) 0 ≡ slot → Removing q slot ring kept (place + 1)
-    unfolding entry behind
+    pub removing-drop : entry ≡ slot → Removing q slot ring kept (place + 1)
     removing-drop is = record {
       whole = t .whole;
       kept-le = omega arith;
@@ -52,20 +50,17 @@ module _ (q : BandQueue) (slot : ℕ) (good : WellFormed q) where
     }
 
     -- the entry is stored behind those kept before it, and what is still to be looked at is not touched
-    module _ (other : getD ring ((q .head + place) % 64) 0 ≡ slot → ⊥) where
-      after : List ℕ
-      after = set ring ((q .head + kept) % 64) (getD ring ((q .head + place) % 64) 0)
+    module _ (other : entry ≡ slot → ⊥) where
+      abbrev after : List ℕ
+      after = set ring ((q .head + kept) % 64) entry
 
       kept-one : window after (q .head) (kept + 1) ≡ window ring (q .head) kept ++ entry ∷ []
-      unfolding entry after
       kept-one = ap (window after (q .head)) (add-one kept) ∙ window-store ring (q .head) kept entry (t .whole) (omega arith)
 
       rest-same : window after (q .head + (place + 1)) (q .len - (place + 1)) ≡ behind
-      unfolding behind after
       rest-same = window-apart ring (q .head + (place + 1)) (q .len - (place + 1)) _ _ (λ j l e. omega arith)
 
-      pub removing-keep : Removing q slot (set ring ((q .head + kept) % 64) (getD ring ((q .head + place) % 64) 0)) (kept + 1) (place + 1)
-      unfolding entry behind after
+      pub removing-keep : Removing q slot after (kept + 1) (place + 1)
       removing-keep = record {
         whole = length-set ring _ _ ∙ t .whole;
         kept-le = omega arith;

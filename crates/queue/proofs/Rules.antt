@@ -29,15 +29,15 @@ pushed-refused slot es e = rw e
 
 -- ---- the entry at a place
 
-pub entryAt-in : (place : ℕ) (es : List ℕ) → place < length es → entryAt place es ≡ Some (record { 0 = getD es place 0 })
+pub entryAt-in : (place : ℕ) (es : List ℕ) (slot : Slot) → place < length es → getD es place 0 ≡ slot .0 → entryAt place es ≡ Some slot
 unfolding entryAt
-entryAt-in place es l = rw (lt-ltb place (length es) l)
+entryAt-in place es slot l is = rw (lt-ltb place (length es) l) (ap (λ (e : ℕ). Some (record { 0 = e })) is)
 
 pub entryAt-past : (place : ℕ) (es : List ℕ) → length es ≤ place → entryAt place es ≡ None
 unfolding entryAt
 entryAt-past place es l = rw (le-ltb place (length es) l)
 
--- a slot that is answered stands there, and where none is answered the place lies past the tail
+-- and back: a slot that is answered stands there, and where none is answered the place lies past the tail
 pub entryAt-some : (place : ℕ) (es : List ℕ) (slot : Slot) → entryAt place es ≡ Some slot → (place < length es) × (getD es place 0 ≡ slot .0)
 unfolding entryAt
 entryAt-some place es slot =

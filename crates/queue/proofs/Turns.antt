@@ -68,8 +68,7 @@ module _ (q : BandQueue) (good : WellFormed q) where
     unfolding entries
     turned-taken slot is = record {
       slot-is =
-          ap (λ (e : ℕ). Some (record { 0 = e })) (is ∙ window-front ring head (q .len) (t .head-in) front)
-          ∙ sym (entryAt-in moved (entries q) (omega (arith, length-entries q)));
+          sym (entryAt-in moved (entries q) slot (omega (arith, length-entries q)) (sym (is ∙ window-front ring head (q .len) (t .head-in) front)));
       queue-is = record {
         well-formed = record { whole = t .whole; head-in = omega arith; len-in = omega arith };
         entries-are = window-behind ring head (q .len) front;

@@ -3,26 +3,28 @@
 ghost use Rattle.queue.specs.Stored.{WellFormed};
 use libc::STDOUT_FILENO;
 use queue::BandQueue;
+use queue::Pushed;
 use queue::Taken;
 use records::MAX_TASKS;
 use records::Slot;
 use records::SlotOption;
 
 fn main() {
-    refusals();
+    empty_queue();
     full_ring(picks());
 }
 
-// An empty queue: nothing to take, and 64 is no slot.
-fn refusals() {
+// An empty queue: nothing to take, 63 is a slot and 64 is none.
+fn empty_queue() {
     let empty = BandQueue::new();
     show(b"new", empty);
     show_taken(b"pop", empty.pop());
-    let stranger = empty.push(Slot(MAX_TASKS));
-    show(b"push 64", stranger.queue);
+    show_pushed(b"push 63", empty.push(Slot(MAX_TASKS - 1)));
+    show_pushed(b"push 64", empty.push(Slot(MAX_TASKS)));
 }
 
-// Case K4 on one queue, then a place past the tail and removals. The queue that is left has gone round part of the ring.
+// Case K4 on one queue, then a place past the tail and removals. What is left stands inside the ring, so that a queue
+// filled from there goes round its end.
 fn picks() -> BandQueue
     ensures { λ r. ⌜ WellFormed r ⌝ }
 {
@@ -40,12 +42,13 @@ fn picks() -> BandQueue
     front.queue
 }
 
-// A full queue: the push of slot 63 finds 64 entries, the last entry is taken, and a slot that stands twice is removed.
+// A full queue: a push finds 64 entries, the last entry is taken, and a slot that stands twice is removed.
 fn full_ring(queue: BandQueue)
     requires { ⌜ WellFormed queue ⌝ }
 {
-    let full = fill(queue, MAX_TASKS);
-    show(b"push 0 to 63", full);
+    let full = fill(queue, MAX_TASKS - 1);
+    show(b"push 0 to 62", full);
+    show_pushed(b"push 63", full.push(Slot(MAX_TASKS - 1)));
     show_taken(b"take at 63", full.take_at(63));
     show(b"remove 1", full.remove(Slot(1)));
 }
@@ -73,6 +76,18 @@ fn show(done: &[u8], queue: BandQueue)
     io::write_all(STDOUT_FILENO, done);
     io::write_all(STDOUT_FILENO, b":");
     show_entries(queue);
+}
+
+// A line with what was done, whether it was refused, and the entries.
+fn show_pushed(done: &[u8], pushed: Pushed)
+    requires { ⌜ WellFormed (pushed .queue) ⌝ }
+{
+    io::write_all(STDOUT_FILENO, done);
+    if !pushed.ok {
+        io::write_all(STDOUT_FILENO, b" refused");
+    }
+    io::write_all(STDOUT_FILENO, b":");
+    show_entries(pushed.queue);
 }
 
 // A line with what was done, the slot that left and the entries.

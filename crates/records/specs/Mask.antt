@@ -1,4 +1,5 @@
--- Document 01: which cores a mask permits.
+-- Core masks, from document 01's sections "Task record, queues, holders" (all ones, bit N), "Call frames" (modulo 64) and "Waiting and
+-- waking" (mask 0).
 use Prim.Native.Nat.{ℕ, _-_, _/_, _%_, _^_}
 use mathlib.Core.Bool.{Bool, cond}
 use lib.Dec.{eqb}

@@ -1,4 +1,5 @@
--- Document 01's records: the empty one, the one that create makes, and a record with something changed.
+-- Document 01's records: the empty one ("Task record, queues, holders"), those that create, terminate and block leave ("Waiting and
+-- waking"), and the one that a pick leaves ("Picking").
 use Prim.Native.Nat.{ℕ}
 use mathlib.Core.Bool.{Bool, true, false}
 use Rattle.records.specs.declared.ids.Tid.{Tid}
