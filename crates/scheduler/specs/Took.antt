@@ -1,0 +1,82 @@
+-- What P takes in a call: whether the call reaches P, from which state and on which core. Written from document 01's sentences on the five
+-- calls that name a core, beside those calls' own rules; proofs/Took.antt shows that the two agree in every accepted state.
+use mathlib.Core.Bool.{cond}
+use Prim.Native.Nat.{ℕ}
+use lib.Dec.{ltb}
+use Rattle.records.specs.declared.ids.Slot.{Slot}
+use Rattle.records.specs.declared.ids.SlotOption.{SlotOption}
+use Rattle.records.specs.declared.ids.SlotOption.the-variants as slot
+use Rattle.records.specs.declared.state.ThreadState.the-variants.{Ready, Running, Blocked}
+use Rattle.records.specs.State.{isState}
+use Rattle.records.specs.Task.{withConsumed}
+use Rattle.scheduler.specs.declared.call.Call.{Call}
+use Rattle.scheduler.specs.declared.call.Call.the-variants.{Create, Affinity, Terminate, Block, Wake, Enqueue, Schedule, Tick, Yield, Handoff, Plan, CanRunOnCore, TaskIndexForTid, Task, CurrentTaskOnCpu, SystemTicksUs, Holder}
+use Rattle.scheduler.specs.declared.answer.PickOption.{PickOption}
+use Rattle.scheduler.specs.declared.answer.PickOption.the-variants as pick
+use Rattle.scheduler.specs.State.{State, task, holderOf, withTask}
+use Rattle.scheduler.specs.Picking.{ruleP}
+use Rattle.scheduler.specs.Waking.{enqueued}
+use Rattle.scheduler.specs.Ticking.{gain, cleared, sliceOver}
+
+pub data Reach : Type 0 where
+  -- the call does not come to P
+  unreached : Reach
+  -- it comes to P from this state, on this core
+  reaches : State → ℕ → Reach
+
+-- "Rule P, core c below 64"
+abbrev pub below : ℕ → Reach → Reach
+below core r = cond (ltb core 64) r unreached
+
+-- "consumed becomes 0, the holder is enqueued unless Ready"
+abbrev pub backToQueue : ℕ → State → State
+backToQueue h s = cond (isState (task s h .state) Ready) s (enqueued h s)
+
+abbrev pub outOfSlice : ℕ → State → State
+outOfSlice h s = backToQueue h (withTask s h (withConsumed (task s h) 0))
+
+-- "No holder: P. Holder Blocked: clear it, then P. Otherwise [..] if it reaches the budget, or a permitted entry waits in an earlier band,
+-- [..] then P. Else the holder is the answer."
+abbrev pub tickReach : SlotOption → ℕ → ℕ → State → Reach
+tickReach slot.None core elapsed s = reaches s core
+tickReach (slot.Some h) core elapsed s =
+    cond (isState (task s (h .0) .state) Blocked) (reaches (cleared core s) core) (
+        cond (sliceOver (h .0) elapsed core s) (reaches (outOfSlice (h .0) s) core) unreached)
+
+-- "a holder that is Running is enqueued and cleared; then P"
+abbrev pub yieldReach : SlotOption → ℕ → State → Reach
+yieldReach slot.None core s = reaches s core
+yieldReach (slot.Some h) core s = cond (isState (task s (h .0) .state) Running) (reaches (cleared core (enqueued (h .0) s)) core) unreached
+
+-- "Blocked is cleared, then P"
+abbrev pub handoffReach : SlotOption → ℕ → State → Reach
+handoffReach slot.None core s = unreached
+handoffReach (slot.Some h) core s = cond (isState (task s (h .0) .state) Blocked) (reaches (cleared core s) core) unreached
+
+-- schedule is P; plan runs the tick; no call that names no core comes to P, and no query does
+unfoldable pub reach : Call → State → Reach
+reach (Schedule core) s = below core (reaches s core)
+reach (Tick core elapsed) s = below core (tickReach (holderOf s core) core elapsed (gain elapsed s))
+reach (Yield core) s = below core (yieldReach (holderOf s core) core s)
+reach (Handoff core) s = below core (handoffReach (holderOf s core) core s)
+reach (Plan core elapsed) s = below core (tickReach (holderOf s core) core elapsed (gain elapsed s))
+reach (Create tid band context cr3 rsp0) s = unreached
+reach (Affinity slot mask) s = unreached
+reach (Terminate slot) s = unreached
+reach (Block slot) s = unreached
+reach (Wake slot) s = unreached
+reach (Enqueue slot) s = unreached
+reach (CanRunOnCore slot core) s = unreached
+reach (TaskIndexForTid tid) s = unreached
+reach (Task slot) s = unreached
+reach (CurrentTaskOnCpu core) s = unreached
+reach SystemTicksUs s = unreached
+reach (Holder slot) s = unreached
+
+-- "A pick is what P takes in a call, at most one a call"
+abbrev pub takenBy : Reach → PickOption
+takenBy unreached = pick.None
+takenBy (reaches s core) = ruleP core s .pick
+
+abbrev pub took : Call → State → PickOption
+took call s = takenBy (reach call s)

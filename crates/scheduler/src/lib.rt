@@ -1,0 +1,20 @@
+// The scheduler of document 01: who runs on which core, and for how long.
+//
+//   call     Call: every call and query, with its arguments
+//   answer   Answer: status, the pick made, and the value; plans and what may be missing
+//
+// specs/ has document 01's rules as definitions over these types; proofs/ has the laws that hold for all of them.
+mod answer;
+mod call;
+
+pub use answer::Answer;
+pub use answer::ContextSwitchPlan;
+pub use answer::ContextSwitchTarget;
+pub use answer::CoreOption;
+pub use answer::Pick;
+pub use answer::PickOption;
+pub use answer::PlanOption;
+pub use answer::Status;
+pub use answer::TaskOption;
+pub use answer::Value;
+pub use call::Call;
