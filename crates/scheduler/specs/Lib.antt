@@ -9,4 +9,5 @@ pub mod Queries
 pub mod Step
 pub mod Took
 pub mod Paper
+pub mod Stretch
 pub mod Demand3

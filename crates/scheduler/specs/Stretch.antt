@@ -1,0 +1,120 @@
+-- X's stretch, from demand 3 and document 01's paragraph on its list: the list call by call, which calls end the stretch, its picks, and the
+-- entries before X. Everything here computes.
+use mathlib.Core.Path.{_≡_}
+use mathlib.Core.Bool.{Bool, true, false, cond, not, _&&_, _||_}
+use mathlib.Core.List.{List, [], _∷_}
+use Prim.Native.Nat.{ℕ, _<_}
+use lib.Dec.{ltb, eqb}
+use Rattle.records.specs.declared.band.QoSClass.{QoSClass}
+use Rattle.records.specs.Band.{bandCode}
+use Rattle.records.specs.Mask.{permits}
+use Rattle.scheduler.specs.declared.call.Call.{Call}
+use Rattle.scheduler.specs.declared.call.Call.the-variants.{Create, Affinity, Terminate, Block, Wake, Enqueue, Schedule, Tick, Yield, Handoff, Plan, CanRunOnCore, TaskIndexForTid, Task, CurrentTaskOnCpu, SystemTicksUs, Holder}
+use Rattle.scheduler.specs.declared.answer.Answer.{Answer}
+use Rattle.scheduler.specs.declared.answer.CoreOption.{CoreOption}
+use Rattle.scheduler.specs.declared.answer.CoreOption.the-variants as core
+use Rattle.scheduler.specs.declared.answer.PickOption.{PickOption}
+use Rattle.scheduler.specs.declared.answer.PickOption.the-variants as pick
+use Rattle.scheduler.specs.State.{State, task, queue}
+use Rattle.scheduler.specs.Step.{step}
+
+-- ---- the list, call by call
+
+-- one call of a list: the call, the state that it found, and what it answered
+pub record Event : Type 0 where
+  pub call : Call
+  pub found : State
+  pub answer : Answer
+
+unfoldable pub events : List Call → State → List Event
+events [] s = []
+events (call ∷ calls) s = record { call = call; found = s; answer = step call s .answer } ∷ events calls (step call s .state)
+
+-- ---- X's stretch
+
+-- the core that a call names: its argument, whether or not the call is refused; queries are none of the eleven calls
+abbrev pub named : Call → CoreOption
+named (Schedule c) = core.Some c
+named (Tick c elapsed) = core.Some c
+named (Yield c) = core.Some c
+named (Handoff c) = core.Some c
+named (Plan c elapsed) = core.Some c
+named (Create tid band context cr3 rsp0) = core.None
+named (Affinity slot mask) = core.None
+named (Terminate slot) = core.None
+named (Block slot) = core.None
+named (Wake slot) = core.None
+named (Enqueue slot) = core.None
+named (CanRunOnCore slot c) = core.None
+named (TaskIndexForTid tid) = core.None
+named (Task slot) = core.None
+named (CurrentTaskOnCpu c) = core.None
+named SystemTicksUs = core.None
+named (Holder slot) = core.None
+
+-- "blocks or terminates X, sets its mask"
+abbrev pub touches : ℕ → Call → Bool
+touches x (Block slot) = eqb (slot .0) x
+touches x (Terminate slot) = eqb (slot .0) x
+touches x (Affinity slot mask) = eqb (slot .0) x
+touches x (Create tid band context cr3 rsp0) = false
+touches x (Wake slot) = false
+touches x (Enqueue slot) = false
+touches x (Schedule c) = false
+touches x (Tick c elapsed) = false
+touches x (Yield c) = false
+touches x (Handoff c) = false
+touches x (Plan c elapsed) = false
+touches x (CanRunOnCore slot c) = false
+touches x (TaskIndexForTid tid) = false
+touches x (Task slot) = false
+touches x (CurrentTaskOnCpu c) = false
+touches x SystemTicksUs = false
+touches x (Holder slot) = false
+
+-- "a core below 64 that its mask forbids"
+abbrev pub forbids : ℕ → CoreOption → Bool
+forbids mask core.None = false
+forbids mask (core.Some c) = ltb c 64 && not (permits mask c)
+
+-- the call breaks X's conditions: it "blocks or terminates X, sets its mask or names a core below 64 that its mask forbids"
+abbrev pub breaks : ℕ → Event → Bool
+breaks x e = touches x (e .call) || forbids (task (e .found) x .«cpu_affinity») (named (e .call))
+
+abbrev pub isPick : ℕ → PickOption → Bool
+isPick x pick.None = false
+isPick x (pick.Some p) = eqb (p .slot .0) x
+
+-- the call picks X
+abbrev pub picks : ℕ → Event → Bool
+picks x e = isPick x (e .answer .pick)
+
+-- "X's stretch ends with the call that picks X, that call included, or before the first call that breaks its conditions, or else with the
+-- list."
+unfoldable pub stretch : (Event → Bool) → (Event → Bool) → List Event → List Event
+stretch breaking picking [] = []
+stretch breaking picking (e ∷ es) = cond (breaking e) [] (e ∷ cond (picking e) [] (stretch breaking picking es))
+
+-- X's stretch from a point on: the state there, and the calls that follow
+abbrev pub stretchOf : ℕ → State → List Call → List Event
+stretchOf x s next = stretch (breaks x) (picks x) (events next s)
+
+-- ---- its picks
+
+-- "the picks from X's band before X's own": in a stretch, those of the band that are not X
+abbrev pub othersIn : QoSClass → ℕ → PickOption → List ℕ → List ℕ
+othersIn band x pick.None later = later
+othersIn band x (pick.Some p) later = cond (eqb (bandCode (p .band)) (bandCode band) && not (eqb (p .slot .0) x)) (p .slot .0 ∷ later) later
+
+unfoldable pub others : QoSClass → ℕ → List Event → List ℕ
+others band x [] = []
+others band x (e ∷ es) = othersIn band x (e .answer .pick) (others band x es)
+
+-- "p entries before it in its band": the entries of a queue before X
+unfoldable pub before : ℕ → List ℕ → List ℕ
+before x [] = []
+before x (e ∷ es) = cond (eqb e x) [] (e ∷ before x es)
+
+-- the entries before X in its band's queue
+abbrev pub ahead : State → ℕ → List ℕ
+ahead s x = before x (queue s (task s x .qos))
