@@ -20,6 +20,10 @@ pub count-one : (slot : ℕ) → count slot (slot ∷ []) ≡ 1
 unfolding count
 count-one slot = rw (eq-eqb slot slot refl) (omega arith)
 
+pub count-other : (slot e : ℕ) → (slot ≡ e → ⊥) → count slot (e ∷ []) ≡ 0
+unfolding count
+count-other slot e apart = rw (ne-eqb e slot (λ same. apart (sym same))) (omega arith)
+
 pub count-taken : (slot place : ℕ) (es : List ℕ) → place < length es → count slot (takenAt place es) + count slot (getD es place 0 ∷ []) ≡ count slot es
 unfolding takenAt
 count-taken slot place es l =

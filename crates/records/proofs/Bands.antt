@@ -1,6 +1,7 @@
--- The bands: reading a code gives back the band that has it, and only codes are read; a slice is never empty.
+-- The bands: reading a code gives back the band that has it, and only codes are read; bands with one code are one band; a slice is never
+-- empty.
 -- Assumes nothing.
-use mathlib.Core.Path.{_≡_, refl, ap}
+use mathlib.Core.Path.{_≡_, refl, sym, ap, _∙_}
 use Prim.Native.Nat.{ℕ, zero, suc, _≤_, _<_}
 use native.Mathlib.Omega.{arith}
 use lib.ListN.{List·getD-eq-default}
@@ -27,6 +28,10 @@ bandCode-at zero q e = let is : q ≡ UserInteractive = cc in ap bandCode is
 bandCode-at (suc zero) q e = let is : q ≡ RealTimeIO = cc in ap bandCode is
 bandCode-at (suc (suc zero)) q e = let is : q ≡ Background = cc in ap bandCode is
 bandCode-at (suc (suc (suc n))) q e = let never : _≡_ {A = ℕ} 0 1 = cc in absurd (omega arith)
+
+-- bands with one code are one band
+pub bandCode-one : (a b : QoSClass) → bandCode a ≡ bandCode b → a ≡ b
+bandCode-one a b e = let same : band.Some a ≡ band.Some b = sym (bandAt-code a) ∙ ap bandAt e ∙ bandAt-code b in cc
 
 -- a task that has consumed nothing has not used up its slice
 pub slice-positive : (q : QoSClass) → 0 < slice q

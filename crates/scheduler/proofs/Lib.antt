@@ -1,1 +1,11 @@
--- Laws.
+-- Laws about the definitions of specs/.
+mod Lists
+mod Parts
+mod Kept
+mod Moves
+mod Picks
+mod Course
+pub mod Accepts
+pub mod Refusals
+pub mod Pins
+pub mod KCases

@@ -49,10 +49,13 @@ abbrev pub task : State → ℕ → TaskControlBlock
 task s slot = getD (s .tasks) slot emptyRecord
 
 -- a band's queue
+abbrev pub ofBand : Queues → QoSClass → List ℕ
+ofBand q UserInteractive = q .interactive
+ofBand q RealTimeIO = q .realTime
+ofBand q Background = q .background
+
 abbrev pub queue : State → QoSClass → List ℕ
-queue s UserInteractive = s .queues .interactive
-queue s RealTimeIO = s .queues .realTime
-queue s Background = s .queues .background
+queue s band = ofBand (s .queues) band
 
 -- a core's holder; a core of 64 and above has none
 abbrev pub holder : State → ℕ → ℕ
@@ -75,10 +78,17 @@ withTask s slot t = record { tasks = set (s .tasks) slot t; queues = s .queues; 
 abbrev pub withQueues : State → Queues → State
 withQueues s q = record { tasks = s .tasks; queues = q; holders = s .holders; micros = s .micros }
 
+abbrev pub withBand : Queues → QoSClass → List ℕ → Queues
+withBand q UserInteractive es = record { interactive = es; realTime = q .realTime; background = q .background }
+withBand q RealTimeIO es = record { interactive = q .interactive; realTime = es; background = q .background }
+withBand q Background es = record { interactive = q .interactive; realTime = q .realTime; background = es }
+
 abbrev pub withQueue : State → QoSClass → List ℕ → State
-withQueue s UserInteractive es = withQueues s (record { interactive = es; realTime = s .queues .realTime; background = s .queues .background })
-withQueue s RealTimeIO es = withQueues s (record { interactive = s .queues .interactive; realTime = es; background = s .queues .background })
-withQueue s Background es = withQueues s (record { interactive = s .queues .interactive; realTime = s .queues .realTime; background = es })
+withQueue s band es = withQueues s (withBand (s .queues) band es)
+
+-- the same done to each queue
+abbrev pub eachQueue : (List ℕ → List ℕ) → Queues → Queues
+eachQueue f q = record { interactive = f (q .interactive); realTime = f (q .realTime); background = f (q .background) }
 
 abbrev pub withHolders : State → List ℕ → State
 withHolders s hs = record { tasks = s .tasks; queues = s .queues; holders = hs; micros = s .micros }

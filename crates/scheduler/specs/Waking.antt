@@ -16,7 +16,7 @@ use Rattle.records.specs.State.{isState}
 use Rattle.records.specs.Task.{created, withState, withMask, terminated, blocked}
 use Rattle.queue.specs.Rules.{full, pushed, without}
 use Rattle.scheduler.specs.declared.answer.Value.the-variants as value
-use Rattle.scheduler.specs.State.{State, Queues, nobody, task, queue, firstPlace, withTask, withQueue, withQueues, withHolders}
+use Rattle.scheduler.specs.State.{State, Queues, nobody, task, queue, firstPlace, withTask, withQueue, withQueues, eachQueue, withHolders}
 use Rattle.scheduler.specs.Outcome.{Outcome, done, refused}
 
 -- "the lowest slot not in use"; the number of slots where every one is in use
@@ -36,11 +36,7 @@ affinity slot mask s = cond (ltb slot 64) (done value.Nothing (withTask s slot (
 
 -- "taken out of the queues"
 abbrev pub outOfQueues : ℕ → State → State
-outOfQueues slot s = withQueues s (record {
-  interactive = without slot (s .queues .interactive);
-  realTime = without slot (s .queues .realTime);
-  background = without slot (s .queues .background);
-})
+outOfQueues slot s = withQueues s (eachQueue (without slot) (s .queues))
 
 -- "and holders"
 abbrev pub released : ℕ → ℕ → ℕ

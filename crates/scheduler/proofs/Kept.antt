@@ -1,0 +1,217 @@
+-- Acceptance as the proofs carry it. In place of what document 01 asks of the queues there is one equation: a slot stands in a band's queue as
+-- often as its record says, once if it is Ready and of that band, else not at all. Every slot and core is spoken of; those of 64 and above read
+-- as the empty record and as none. The two forms are shown equal. Assumes nothing.
+use mathlib.Core.Path.{_≡_, refl, sym, ap, _∙_, subst}
+use mathlib.Core.Bool.{Bool, true, false, cond, not, _&&_, true≢false}
+use mathlib.Core.List.{List, [], _∷_}
+use mathlib.Core.Logic.{_⊎_, inl, inr}
+use Prim.Native.Nat.{ℕ, zero, suc, _+_, _≤_, _<_}
+use native.Mathlib.Omega.{arith}
+use borrow.Author.Tests.{ltb-true, ltb-false, lt-leb, eqb-true, eqb-false, eq-eqb, ne-eqb}
+use lib.Dec.{ltb, eqb}
+use lib.ListN.{length, getD, List·getD-eq-default}
+use Rattle.records.specs.declared.band.QoSClass.{QoSClass}
+use Rattle.records.specs.declared.band.QoSClass.the-variants.{UserInteractive, RealTimeIO, Background}
+use Rattle.records.specs.declared.state.ThreadState.{ThreadState}
+use Rattle.records.specs.declared.state.ThreadState.the-variants.{Ready, Terminated}
+use Rattle.records.specs.declared.task.TaskControlBlock.{TaskControlBlock}
+use Rattle.records.specs.Band.{bandCode, slice}
+use Rattle.records.specs.State.{isState}
+use Rattle.records.specs.Task.{emptyRecord}
+use Rattle.records.proofs.Bands.{bandCode-one}
+use Rattle.records.proofs.Cases.{split}
+use Rattle.records.proofs.States.{isState-true}
+use Rattle.queue.specs.Rules.{count, full, without}
+use Rattle.queue.proofs.Counts.{count-append, count-one, count-other, count-entry, count-without-same, count-without-other, length-without}
+use Rattle.scheduler.specs.State.{State, nobody, task, queue, holder}
+use Rattle.scheduler.specs.Accepted.{Accepted, ReadyOf, MayHold, standings, readyOf}
+use Rattle.scheduler.proofs.Lists.{count-place}
+
+-- ---- how often a record asks to stand in a band's queue
+
+abbrev pub due : QoSClass → TaskControlBlock → ℕ
+due band t = cond (readyOf band t) 1 0
+
+pub due-small : (band : QoSClass) (t : TaskControlBlock) → due band t ≤ 1
+due-small band t = split (λ (b : Bool). cond b 1 0 ≤ 1) (readyOf band t) (λ _. omega arith) (λ _. omega arith)
+
+pub due-is : (band : QoSClass) (t : TaskControlBlock) → 1 ≤ due band t → ReadyOf band t
+due-is band t =
+    split (λ (r : Bool). isState (t .state) Ready ≡ r → 1 ≤ cond (r && eqb (bandCode (t .qos)) (bandCode band)) 1 0 → ReadyOf band t) (isState (t .state) Ready)
+    (λ _ ready.
+        split (λ (b : Bool). eqb (bandCode (t .qos)) (bandCode band) ≡ b → 1 ≤ cond b 1 0 → ReadyOf band t) (eqb (bandCode (t .qos)) (bandCode band))
+        (λ _ is _. record { ready = isState-true (t .state) Ready ready; of-band = bandCode-one (t .qos) band (eqb-true (bandCode (t .qos)) (bandCode band) is) })
+        (λ _ _ h. absurd (omega arith))
+        refl)
+    (λ _ _ h. absurd (omega arith))
+    refl
+
+pub due-ready : (band : QoSClass) (t : TaskControlBlock) → ReadyOf band t → due band t ≡ 1
+due-ready band t r =
+    let ready : isState (t .state) Ready ≡ true = ap (λ (st : ThreadState). isState st Ready) (r .ready) in
+    rw ready (rw (eq-eqb (bandCode (t .qos)) (bandCode band) (ap bandCode (r .of-band))) refl)
+
+pub due-not : (band : QoSClass) (t : TaskControlBlock) → (ReadyOf band t → ⊥) → due band t ≡ 0
+due-not band t other =
+    split (λ (b : Bool). due band t ≡ cond b 1 0 → due band t ≡ 0) (readyOf band t)
+    (λ _ e. absurd (other (due-is band t (omega arith))))
+    (λ _ e. e)
+    refl
+
+-- ---- the form itself
+
+-- what acceptance asks of a record alone
+pub record Good (t : TaskControlBlock) : Type 0 where
+  pub in-use : t .«in_use» ≡ not (isState (t .state) Terminated)
+  pub mask : t .«cpu_affinity» ≡ 0 → ⊥
+  pub budget : (t .«slice_budget_us» ≡ 0) ⊎ (t .«slice_budget_us» ≡ slice (t .qos))
+  pub consumed : t .«consumed_slice_us» < slice (t .qos)
+
+pub record Kept (s : State) : Type 0 where
+  pub slots : length (s .tasks) ≡ 64
+  pub cores : length (s .holders) ≡ 64
+  pub good : (slot : ℕ) → Good (task s slot)
+  pub queued : (band : QoSClass) (slot : ℕ) → count slot (queue s band) ≡ due band (task s slot)
+  pub held : (core : ℕ) → (holder s core ≡ nobody) ⊎ MayHold (task s (holder s core))
+
+pub empty-good : Good emptyRecord
+empty-good = record { in-use = refl; mask = λ e. omega arith; budget = inl refl; consumed = omega arith }
+
+-- what holds of the first n elements and of the default holds of all that can be read
+pub everywhere : {A : Type 0} (P : A → Type 0) (l : List A) (d : A) (n : ℕ) → length l ≡ n → P d → ((i : ℕ) → i < n → P (getD l i d)) → (i : ℕ) → P (getD l i d)
+everywhere P l d n whole out within i =
+    split (λ (b : Bool). ltb i n ≡ b → P (getD l i d)) (ltb i n)
+    (λ _ is. within i (ltb-true i n is))
+    (λ _ no. subst P (sym (List·getD-eq-default l d (let past : length l ≤ i = omega (arith, ltb-false i n no) in past))) out)
+    refl
+
+-- a slot whose record is not the empty one is one of the 64
+pub in-table : (s : State) → length (s .tasks) ≡ 64 → (slot : ℕ) → (task s slot ≡ emptyRecord → ⊥) → slot < 64
+in-table s whole slot filled =
+    split (λ (b : Bool). ltb slot 64 ≡ b → slot < 64) (ltb slot 64)
+    (λ _ is. ltb-true slot 64 is)
+    (λ _ out. absurd (filled (List·getD-eq-default (s .tasks) emptyRecord (let past : length (s .tasks) ≤ slot = omega (arith, ltb-false slot 64 out) in past))))
+    refl
+
+pub ready-in-table : (s : State) → length (s .tasks) ≡ 64 → (slot : ℕ) → task s slot .state ≡ Ready → slot < 64
+ready-in-table s whole slot ready =
+    in-table s whole slot (λ e. let never : Ready ≡ Terminated = sym ready ∙ ap (λ (t : TaskControlBlock). t .state) e in let no : _≡_ {A = ℕ} 0 1 = cc in absurd (omega arith))
+
+pub used-in-table : (s : State) → length (s .tasks) ≡ 64 → (slot : ℕ) → task s slot .«in_use» ≡ true → slot < 64
+used-in-table s whole slot used =
+    in-table s whole slot (λ e. true≢false (sym used ∙ ap (λ (t : TaskControlBlock). t .«in_use») e))
+
+-- ---- a queue has room for whoever is not in it
+
+-- distinct numbers below n are at most n
+bounded : (n : ℕ) (es : List ℕ) → ((i : ℕ) → 1 ≤ count i es → i < n) → ((i : ℕ) → count i es ≤ 1) → length es ≤ n
+bounded zero [] below once = omega arith
+bounded zero (e ∷ es) below once = absurd (omega (arith, below e (count-entry 0 (e ∷ es) (omega arith))))
+bounded (suc n) es below once =
+    let fewer : (i : ℕ) → count i (without n es) ≤ count i es = λ i.
+        split (λ (b : Bool). eqb i n ≡ b → count i (without n es) ≤ count i es) (eqb i n)
+        (λ _ is. rw (eqb-true i n is) (omega (arith, count-without-same n es)))
+        (λ _ other. omega (arith, count-without-other n i es (eqb-false i n other)))
+        refl in
+    let lower : (i : ℕ) → 1 ≤ count i (without n es) → i < n = λ i h.
+        let apart : i ≡ n → ⊥ = λ same. let none : count i (without n es) ≡ 0 = ap (λ (k : ℕ). count k (without n es)) same ∙ count-without-same n es in absurd (omega arith) in
+        omega (arith, below i (let more : 1 ≤ count i es = omega (arith, fewer i) in more), apart) in
+    omega (arith, length-without n es, once n, bounded n (without n es) lower (λ i. let few : count i (without n es) ≤ 1 = omega (arith, fewer i, once i) in few))
+
+module _ (s : State) (k : Kept s) where
+  pub entry-ready : (band : QoSClass) (slot : ℕ) → 1 ≤ count slot (queue s band) → ReadyOf band (task s slot)
+  entry-ready band slot h = due-is band (task s slot) (let d : 1 ≤ due band (task s slot) = omega (arith, k .queued band slot) in d)
+
+  entry-below : (band : QoSClass) (slot : ℕ) → 1 ≤ count slot (queue s band) → slot < 64
+  entry-below band slot h = ready-in-table s (k .slots) slot (entry-ready band slot h .ready)
+
+  entry-once : (band : QoSClass) (slot : ℕ) → count slot (queue s band) ≤ 1
+  entry-once band slot = omega (arith, k .queued band slot, due-small band (task s slot))
+
+  pub queue-bounded : (band : QoSClass) → length (queue s band) ≤ 64
+  queue-bounded band = bounded 64 (queue s band) (entry-below band) (entry-once band)
+
+  -- "64 entries stand in it" is never so for a slot that could be queued
+  pub never-full : (band : QoSClass) (slot : ℕ) → slot < 64 → isState (task s slot .state) Ready ≡ false → full (queue s band) ≡ false
+  never-full band slot low waits-not =
+      let es : List ℕ = queue s band in
+      let absent : count slot es ≡ 0 = k .queued band slot ∙ due-not band (task s slot) (λ r.
+          true≢false (ap (λ (st : ThreadState). isState st Ready) (sym (r .ready)) ∙ waits-not)) in
+      let split-count : (i : ℕ) → count i (slot ∷ es) ≡ count i (slot ∷ []) + count i es = λ i. count-append i (slot ∷ []) es in
+      let room : length (slot ∷ es) ≤ 64 = bounded 64 (slot ∷ es)
+          (λ i. split (λ (b : Bool). eqb i slot ≡ b → 1 ≤ count i (slot ∷ es) → i < 64) (eqb i slot)
+              (λ _ is _. omega (arith, eqb-true i slot is))
+              (λ _ other h. entry-below band i (let more : 1 ≤ count i es = omega (arith, split-count i, count-other i slot (eqb-false i slot other)) in more))
+              refl)
+          (λ i. split (λ (b : Bool). eqb i slot ≡ b → count i (slot ∷ es) ≤ 1) (eqb i slot)
+              (λ _ is. rw (eqb-true i slot is) (omega (arith, split-count slot, count-one slot)))
+              (λ _ other. omega (arith, split-count i, count-other i slot (eqb-false i slot other), entry-once band i))
+              refl) in
+      lt-leb 64 (length es) (let less : length es < 64 = omega arith in less)
+
+-- ---- the two forms are one
+
+one-band : (q : QoSClass) → cond (eqb (bandCode q) 0) 1 0 + (cond (eqb (bandCode q) 1) 1 0 + cond (eqb (bandCode q) 2) 1 0) ≡ 1
+one-band UserInteractive = refl
+one-band RealTimeIO = refl
+one-band Background = refl
+
+pub kept-accepted : (s : State) → Kept s → Accepted s
+kept-accepted s k = record {
+  slots = k .slots;
+  cores = k .cores;
+  in-use = λ slot _. k .good slot .in-use;
+  masks = λ slot _. k .good slot .mask;
+  lengths = queue-bounded s k;
+  entries = λ band place h. entry-ready s k band (getD (queue s band) place 0) (count-entry place (queue s band) h);
+  once = λ slot _ ready.
+      let t : TaskControlBlock = task s slot in
+      let dues : due UserInteractive t + (due RealTimeIO t + due Background t) ≡ 1 =
+          let is : isState (t .state) Ready ≡ true = ap (λ (st : ThreadState). isState st Ready) ready in
+          rw is (one-band (t .qos)) in
+      omega (arith, k .queued UserInteractive slot, k .queued RealTimeIO slot, k .queued Background slot);
+  holders = λ core _. k .held core;
+  budgets = λ slot _. k .good slot .budget;
+  consumed = λ slot _. k .good slot .consumed;
+}
+
+module _ (s : State) (a : Accepted s) where
+  stands-ready : (band : QoSClass) (slot : ℕ) → 1 ≤ count slot (queue s band) → ReadyOf band (task s slot)
+  stands-ready band slot h =
+      let p : (place : ℕ) × (place < length (queue s band)) × (getD (queue s band) place 0 ≡ slot) = count-place slot (queue s band) h in
+      subst (λ (i : ℕ). ReadyOf band (task s i)) (p .2) (a .entries band (p .0) (p .1))
+
+  -- in a band that is not its own a slot does not stand
+  elsewhere : (band : QoSClass) (slot : ℕ) → (ReadyOf band (task s slot) → ⊥) → count slot (queue s band) ≡ 0
+  elsewhere band slot other =
+      split (λ (b : Bool). eqb (count slot (queue s band)) 0 ≡ b → count slot (queue s band) ≡ 0) (eqb (count slot (queue s band)) 0)
+      (λ _ is. eqb-true (count slot (queue s band)) 0 is)
+      (λ _ more. absurd (other (stands-ready band slot (omega (arith, eqb-false (count slot (queue s band)) 0 more)))))
+      refl
+
+  apart : (b c : QoSClass) (slot : ℕ) → ReadyOf b (task s slot) → (bandCode b ≡ bandCode c → ⊥) → count slot (queue s c) ≡ 0
+  apart b c slot r different = elsewhere c slot (λ q. different (ap bandCode (sym (r .of-band) ∙ q .of-band)))
+
+  somewhere : (band : QoSClass) (slot : ℕ) → ReadyOf band (task s slot) → standings s slot ≡ 1
+  somewhere band slot r = a .once slot (ready-in-table s (a .slots) slot (r .ready)) (r .ready)
+
+  stands-once : (band : QoSClass) (slot : ℕ) → ReadyOf band (task s slot) → count slot (queue s band) ≡ 1
+  stands-once UserInteractive slot r =
+      omega (arith, somewhere UserInteractive slot r, apart UserInteractive RealTimeIO slot r (λ e. omega arith), apart UserInteractive Background slot r (λ e. omega arith))
+  stands-once RealTimeIO slot r =
+      omega (arith, somewhere RealTimeIO slot r, apart RealTimeIO UserInteractive slot r (λ e. omega arith), apart RealTimeIO Background slot r (λ e. omega arith))
+  stands-once Background slot r =
+      omega (arith, somewhere Background slot r, apart Background UserInteractive slot r (λ e. omega arith), apart Background RealTimeIO slot r (λ e. omega arith))
+
+pub accepted-kept : (s : State) → Accepted s → Kept s
+accepted-kept s a = record {
+  slots = a .slots;
+  cores = a .cores;
+  good = everywhere Good (s .tasks) emptyRecord 64 (a .slots) empty-good (λ slot h. record { in-use = a .in-use slot h; mask = a .masks slot h; budget = a .budgets slot h; consumed = a .consumed slot h });
+  queued = λ band slot.
+      split (λ (b : Bool). due band (task s slot) ≡ cond b 1 0 → count slot (queue s band) ≡ due band (task s slot)) (readyOf band (task s slot))
+      (λ _ one. stands-once s a band slot (due-is band (task s slot) (let d : 1 ≤ due band (task s slot) = omega arith in d)) ∙ sym one)
+      (λ _ none. elsewhere s a band slot (λ r. let one : due band (task s slot) ≡ 1 = due-ready band (task s slot) r in absurd (omega arith)) ∙ sym none)
+      refl;
+  held = everywhere (λ (h : ℕ). (h ≡ nobody) ⊎ MayHold (task s h)) (s .holders) nobody 64 (a .cores) (inl refl) (a .holders);
+}

@@ -1,0 +1,197 @@
+-- The changes that calls are made of: a record and the queues, holders, microseconds. Each keeps acceptance, and leaves a slot that waits
+-- Ready, with its band and mask, nobody new before it, and those before it in their order. `safe` says which waiting slots a change leaves
+-- alone. Assumes nothing.
+use mathlib.Core.Path.{_≡_, refl, sym, ap, _∙_, subst}
+use mathlib.Core.Bool.{Bool, true, false, cond, not, true≢false}
+use mathlib.Core.List.{List, [], _∷_, _++_, map, Sublistᴰ, Sublistᴰ·refl, Sublistᴰ·trans}
+use mathlib.Core.Logic.{_⊎_, inl, inr}
+use Prim.Native.Nat.{ℕ, _+_, _≤_, _<_}
+use native.Mathlib.Omega.{arith}
+use borrow.Author.Tests.{eqb-true, eqb-false}
+use lib.Dec.{eqb}
+use lib.ListN.{length, getD, set, length-set, length-map, List·getD-map}
+use Rattle.records.specs.declared.band.QoSClass.{QoSClass}
+use Rattle.records.specs.declared.state.ThreadState.{ThreadState}
+use Rattle.records.specs.declared.state.ThreadState.the-variants.{Ready, Terminated}
+use Rattle.records.specs.declared.task.TaskControlBlock.{TaskControlBlock}
+use Rattle.records.specs.State.{isState}
+use Rattle.records.specs.Task.{emptyRecord, withState}
+use Rattle.records.proofs.Cases.{split}
+use Rattle.queue.specs.Rules.{count, pushed, without, full}
+use Rattle.queue.proofs.Counts.{count-append, count-one, count-other, count-without-same, count-without-other}
+use Rattle.queue.proofs.Rules.{takes-slot, pushed-taken}
+use Rattle.scheduler.specs.State.{State, Queues, nobody, task, ofBand, withBand, eachQueue, queue, holder, withTask, withQueues, withHolders, withHolder, withMicros}
+use Rattle.scheduler.specs.Accepted.{ReadyOf, MayHold}
+use Rattle.scheduler.specs.Waking.{enqueued, outOfQueues, released, outOfHolders}
+use Rattle.scheduler.specs.Stretch.{before}
+use Rattle.scheduler.proofs.Kept.{Good, Kept, due, due-ready, due-not, never-full, used-in-table}
+use Rattle.scheduler.proofs.Lists.{before-append, before-without}
+use Rattle.scheduler.proofs.Parts.{each-set, each-queue, ofBand-each}
+
+-- ---- what a change must leave
+
+-- two records are alike to one who waits
+pub record Alike (r t : TaskControlBlock) : Type 0 where
+  pub state : r .state ≡ t .state
+  pub band : r .qos ≡ t .qos
+  pub mask : r .«cpu_affinity» ≡ t .«cpu_affinity»
+
+pub record Calm (x : ℕ) (s t : State) : Type 0 where
+  pub alike : Alike (task t x) (task s x)
+  pub order : Sublistᴰ (before x (queue t (task s x .qos))) (before x (queue s (task s x .qos)))
+
+pub record Fine (safe : ℕ → Type 0) (s t : State) : Type 0 where
+  pub kept : Kept t
+  pub calm : (x : ℕ) → safe x → task s x .state ≡ Ready → Calm x s t
+
+-- who waits does not see holders and microseconds
+unseen : (x : ℕ) (s : State) (hs : List ℕ) (n : ℕ) → Calm x s (withMicros (withHolders s hs) n)
+unseen x s hs n = record { alike = record { state = refl; band = refl; mask = refl }; order = Sublistᴰ·refl (before x (queue s (task s x .qos))) }
+
+pub stay : {safe : ℕ → Type 0} (s : State) → Kept s → Fine safe s s
+stay s k = record { kept = k; calm = λ x _ _. unseen x s (s .holders) (s .micros) }
+
+-- one change after another
+pub then : {safe : ℕ → Type 0} (s t u : State) → Fine safe s t → Fine safe t u → Fine safe s u
+then s t u f g = record {
+  kept = g .kept;
+  calm = λ x sx ready.
+      let c : Calm x s t = f .calm x sx ready in
+      let d : Calm x t u = g .calm x sx (c .alike .state ∙ ready) in
+      record {
+        alike = record { state = d .alike .state ∙ c .alike .state; band = d .alike .band ∙ c .alike .band; mask = d .alike .mask ∙ c .alike .mask };
+        order = Sublistᴰ·trans (subst (λ (b : QoSClass). Sublistᴰ (before x (queue u b)) (before x (queue t b))) (c .alike .band) (d .order)) (c .order);
+      };
+}
+
+-- ---- a record and the queues
+
+-- slot i gets the record r, and the queues become q
+pub record Change (safe : ℕ → Type 0) (s : State) (i : ℕ) (r : TaskControlBlock) (q : Queues) : Type 0 where
+  pub low : i < 64
+  pub good : Good r
+  -- i stands in the queues as r asks, every other slot as it did
+  pub own : (b : QoSClass) → count i (ofBand q b) ≡ due b r
+  pub rest : (b : QoSClass) (j : ℕ) → (j ≡ i → ⊥) → count j (ofBand q b) ≡ count j (queue s b)
+  -- a core that holds i may hold it still
+  pub may : (core : ℕ) → holder s core ≡ i → MayHold r
+  -- a slot that waits and is to be left alone is not i, or does not notice; nobody comes before it
+  pub alike : (x : ℕ) → safe x → task s x .state ≡ Ready → x ≡ i → Alike r (task s i)
+  pub order : (x : ℕ) → safe x → task s x .state ≡ Ready → (b : QoSClass) → 1 ≤ count x (queue s b) → Sublistᴰ (before x (ofBand q b)) (before x (queue s b))
+
+-- a Ready slot stands in its band's queue
+pub in-queue : (s : State) → Kept s → (x : ℕ) → task s x .state ≡ Ready → 1 ≤ count x (queue s (task s x .qos))
+in-queue s k x ready = omega (arith, k .queued (task s x .qos) x, due-ready (task s x .qos) (task s x) (record { ready = ready; of-band = refl }))
+
+pub move : {safe : ℕ → Type 0} (s : State) → Kept s → (i : ℕ) (r : TaskControlBlock) (q : Queues) → Change safe s i r q → Fine safe s (withTask (withQueues s q) i r)
+move s k i r q c =
+    let low : i < length (s .tasks) = omega (arith, k .slots, c .low) in
+    record {
+      kept = record {
+        slots = length-set (s .tasks) i r ∙ k .slots;
+        cores = k .cores;
+        good = each-set (λ (j : ℕ) (t : TaskControlBlock). Good t) (s .tasks) i r emptyRecord low (c .good) (λ j _. k .good j);
+        queued = λ b. each-set (λ (j : ℕ) (t : TaskControlBlock). count j (ofBand q b) ≡ due b t) (s .tasks) i r emptyRecord low (c .own b) (λ j other. c .rest b j other ∙ k .queued b j);
+        held = λ core. held-still low core (k .held core);
+      };
+      calm = λ x sx ready. record {
+        alike = each-set (λ (j : ℕ) (t : TaskControlBlock). j ≡ x → Alike t (task s x)) (s .tasks) i r emptyRecord low
+            (λ same. subst (λ (j : ℕ). Alike r (task s j)) same (c .alike x sx ready (sym same)))
+            (λ j _ same. subst (λ (j2 : ℕ). Alike (task s j) (task s j2)) same (record { state = refl; band = refl; mask = refl })) x refl;
+        order = c .order x sx ready (task s x .qos) (in-queue s k x ready);
+      };
+    }
+  where
+    held-still : i < length (s .tasks) → (core : ℕ) → (holder s core ≡ nobody) ⊎ MayHold (task s (holder s core)) → (holder s core ≡ nobody) ⊎ MayHold (getD (set (s .tasks) i r) (holder s core) emptyRecord)
+    held-still low core (inl none) = inl none
+    held-still low core (inr m) =
+        inr (each-set (λ (j : ℕ) (t : TaskControlBlock). holder s core ≡ j → MayHold t) (s .tasks) i r emptyRecord low
+            (c .may core) (λ j _ same. subst (λ (j2 : ℕ). MayHold (task s j2)) same m) (holder s core) refl)
+
+-- whom a core holds may be held
+pub holder-may : (s : State) → Kept s → (core i : ℕ) → i < 64 → holder s core ≡ i → MayHold (task s i)
+holder-may s k core i low same = held-by (k .held core)
+  where
+    held-by : (holder s core ≡ nobody) ⊎ MayHold (task s (holder s core)) → MayHold (task s i)
+    held-by (inl none) = absurd (omega arith)
+    held-by (inr m) = subst (λ (j : ℕ). MayHold (task s j)) same m
+
+-- Ready and not Ready are two
+pub not-both : (st : ThreadState) → st ≡ Ready → isState st Ready ≡ false → ⊥
+not-both st is other = true≢false (ap (λ (q : ThreadState). isState q Ready) (sym is) ∙ other)
+
+-- a record that is not Ready asks for no place
+pub due-idle : (b : QoSClass) (t : TaskControlBlock) → isState (t .state) Ready ≡ false → due b t ≡ 0
+due-idle b t other = due-not b t (λ r. not-both (t .state) (r .ready) other)
+
+module _ {safe : ℕ → Type 0} (s : State) (k : Kept s) where
+  -- a record alone, which asks of the queues what the old one asked
+  pub put : (i : ℕ) (r : TaskControlBlock) → i < 64 → Good r → ((b : QoSClass) → due b r ≡ due b (task s i)) → (MayHold (task s i) → MayHold r) → ((x : ℕ) → safe x → task s x .state ≡ Ready → x ≡ i → Alike r (task s i)) → Fine safe s (withTask s i r)
+  put i r low good dues may alike = move s k i r (s .queues) (record {
+    low = low;
+    good = good;
+    own = λ b. k .queued b i ∙ sym (dues b);
+    rest = λ b j _. refl;
+    may = λ core same. may (holder-may s k core i low same);
+    alike = alike;
+    order = λ x _ _ b _. Sublistᴰ·refl (before x (queue s b));
+  })
+
+  -- a slot that was not waiting goes to the tail of its band
+  pub to-tail : (i : ℕ) → task s i .«in_use» ≡ true → isState (task s i .state) Ready ≡ false → Fine safe s (enqueued i s)
+  to-tail i used idle =
+      let t : TaskControlBlock = task s i in
+      let es : List ℕ = queue s (t .qos) in
+      let low : i < 64 = used-in-table s (k .slots) i used in
+      let tail : pushed i es ≡ es ++ i ∷ [] = pushed-taken i es (takes-slot i es low ∙ ap not (never-full s k (t .qos) i low idle)) in
+      let absent : (b : QoSClass) → count i (queue s b) ≡ 0 = λ b. k .queued b i ∙ due-idle b t idle in
+      let more : (j : ℕ) → count j (pushed i es) ≡ count j es + count j (i ∷ []) = λ j. ap (count j) tail ∙ count-append j es (i ∷ []) in
+      move s k i (withState t Ready) (withBand (s .queues) (t .qos) (pushed i es)) (record {
+        low = low;
+        good = record { in-use = used; mask = k .good i .mask; budget = k .good i .budget; consumed = k .good i .consumed };
+        own = each-queue (λ (b : QoSClass) (l : List ℕ). count i l ≡ due b (withState t Ready)) (s .queues) (t .qos) (pushed i es)
+            (let own : count i (pushed i es) ≡ 1 = omega (arith, more i, absent (t .qos), count-one i) in own ∙ sym (due-ready (t .qos) (withState t Ready) (record { ready = refl; of-band = refl })))
+            (λ b other. absent b ∙ sym (due-not b (withState t Ready) (λ r. other (sym (r .of-band)))));
+        rest = λ b j other.
+            each-queue (λ (c : QoSClass) (l : List ℕ). count j l ≡ count j (queue s c)) (s .queues) (t .qos) (pushed i es)
+            (let same : count j (pushed i es) ≡ count j es = omega (arith, more j, count-other j i other) in same)
+            (λ c _. refl) b;
+        may = λ core same. let m : MayHold t = holder-may s k core i low same in record { used = m .used; armed = m .armed };
+        alike = λ x _ ready same. absurd (not-both (t .state) (ap (λ (j : ℕ). task s j .state) (sym same) ∙ ready) idle);
+        order = λ x _ _.
+            each-queue (λ (b : QoSClass) (l : List ℕ). 1 ≤ count x (queue s b) → Sublistᴰ (before x l) (before x (queue s b))) (s .queues) (t .qos) (pushed i es)
+            (λ there. rw tail (rw (before-append x es (i ∷ []) there) (Sublistᴰ·refl (before x es))))
+            (λ b _ _. Sublistᴰ·refl (before x (queue s b)));
+      })
+
+  -- a slot leaves the queues with a record that asks for no place
+  pub out : (i : ℕ) (r : TaskControlBlock) → i < 64 → Good r → isState (r .state) Ready ≡ false → ((core : ℕ) → holder s core ≡ i → MayHold r) → ((x : ℕ) → safe x → x ≡ i → ⊥) → Fine safe s (withTask (outOfQueues i s) i r)
+  out i r low good idle may apart = move s k i r (eachQueue (without i) (s .queues)) (record {
+    low = low;
+    good = good;
+    own = λ b. ap (count i) (ofBand-each (without i) (s .queues) b) ∙ count-without-same i (queue s b) ∙ sym (due-idle b r idle);
+    rest = λ b j other. ap (count j) (ofBand-each (without i) (s .queues) b) ∙ count-without-other i j (queue s b) other;
+    may = may;
+    alike = λ x sx _ same. absurd (apart x sx same);
+    order = λ x sx _ b _. rw (ofBand-each (without i) (s .queues) b) (before-without x i (queue s b) (apart x sx));
+  })
+
+  -- ---- holders and microseconds
+
+  pub holders : (hs : List ℕ) → length hs ≡ 64 → ((core : ℕ) → (getD hs core nobody ≡ nobody) ⊎ MayHold (task s (getD hs core nobody))) → Fine safe s (withHolders s hs)
+  holders hs whole held = record {
+    kept = record { slots = k .slots; cores = whole; good = k .good; queued = k .queued; held = held };
+    calm = λ x _ _. unseen x s hs (s .micros);
+  }
+
+  -- one core's holder becomes none, or one that may be held
+  pub hold : (core h : ℕ) → core < 64 → (h ≡ nobody) ⊎ MayHold (task s h) → Fine safe s (withHolder s core h)
+  hold core h low may =
+      holders (set (s .holders) core h) (length-set (s .holders) core h ∙ k .cores)
+      (each-set (λ (c g : ℕ). (g ≡ nobody) ⊎ MayHold (task s g)) (s .holders) core h nobody (omega (arith, k .cores)) may (λ c _. k .held c))
+
+  pub time : (n : ℕ) → Fine safe s (withMicros s n)
+  time n = record {
+    kept = record { slots = k .slots; cores = k .cores; good = k .good; queued = k .queued; held = k .held };
+    calm = λ x _ _. unseen x s (s .holders) n;
+  }
