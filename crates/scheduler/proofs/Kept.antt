@@ -125,7 +125,7 @@ module _ (s : State) (k : Kept s) where
   entry-below : (band : QoSClass) (slot : ℕ) → 1 ≤ count slot (queue s band) → slot < 64
   entry-below band slot h = ready-in-table s (k .slots) slot (entry-ready band slot h .ready)
 
-  entry-once : (band : QoSClass) (slot : ℕ) → count slot (queue s band) ≤ 1
+  pub entry-once : (band : QoSClass) (slot : ℕ) → count slot (queue s band) ≤ 1
   entry-once band slot = omega (arith, k .queued band slot, due-small band (task s slot))
 
   pub queue-bounded : (band : QoSClass) → length (queue s band) ≤ 64

@@ -6,6 +6,8 @@ mod Moves
 mod Picks
 mod Course
 pub mod Accepts
+pub mod Calls
+pub mod Waiting
 pub mod Refusals
 pub mod Pins
 pub mod KCases

@@ -37,3 +37,8 @@ pub ofBand-each : (f : List ℕ → List ℕ) (q : Queues) (b : QoSClass) → of
 ofBand-each f q UserInteractive = refl
 ofBand-each f q RealTimeIO = refl
 ofBand-each f q Background = refl
+
+pub ofBand-with : (q : Queues) (b : QoSClass) (es : List ℕ) → ofBand (withBand q b es) b ≡ es
+ofBand-with q UserInteractive es = refl
+ofBand-with q RealTimeIO es = refl
+ofBand-with q Background es = refl

@@ -1,5 +1,6 @@
 -- What P takes in a call: whether the call reaches P, from which state and on which core. Written from document 01's sentences on the five
--- calls that name a core, beside those calls' own rules; proofs/Took.antt shows that the two agree in every accepted state.
+-- calls that name a core, beside those calls' own rules; proofs/Calls.antt shows that the two agree in every accepted state.
+use mathlib.Core.Path.{_≡_}
 use mathlib.Core.Bool.{cond}
 use Prim.Native.Nat.{ℕ}
 use lib.Dec.{ltb}
@@ -14,6 +15,7 @@ use Rattle.scheduler.specs.declared.call.Call.the-variants.{Create, Affi
 use Rattle.scheduler.specs.declared.answer.PickOption.{PickOption}
 use Rattle.scheduler.specs.declared.answer.PickOption.the-variants as pick
 use Rattle.scheduler.specs.State.{State, task, holderOf, withTask}
+use Rattle.scheduler.specs.Outcome.{Outcome}
 use Rattle.scheduler.specs.Picking.{ruleP}
 use Rattle.scheduler.specs.Waking.{enqueued}
 use Rattle.scheduler.specs.Ticking.{gain, cleared, sliceOver}
@@ -80,3 +82,9 @@ takenBy (reaches s core) = ruleP core s .pick
 
 abbrev pub took : Call → State → PickOption
 took call s = takenBy (reach call s)
+
+-- what an outcome owes to P: "the answer carries exactly that pick, or none"
+pub record Carries (r : Reach) (o : Outcome) : Type 0 where
+  pub pick-is : o .answer .pick ≡ takenBy r
+  -- where P is reached, the state is the one that P leaves
+  pub state-is : (s : State) (core : ℕ) → r ≡ reaches s core → o .state ≡ ruleP core s .state
