@@ -81,13 +81,13 @@ module _ (s : State) (k : Kept s) where
       let t : TaskControlBlock = task s free in
       by-if (λ (o : Outcome). CourseOf (Create tid band context cr3 rsp0) s o unreached) (ltb free 64)
       (λ low.
-          let empty : t .«in_use» ≡ false = not-true (t .«in_use») (firstPlace-passes (λ (t : TaskControlBlock). not (t .«in_use»)) (s .tasks) emptyRecord (omega (arith, ltb-true free 64 low, k .slots))) in
-          let idle : isState (t .state) Ready ≡ false = free-idle t (k .good free) empty in
-          quiet refl (put s k free (created tid band context cr3 rsp0) (ltb-true free 64 low)
-              (record { in-use = refl; mask = λ e. omega arith; budget = inl refl; consumed = slice-positive band })
-              (λ b. sym (due-idle b t idle))
-              (λ m. absurd (true≢false (sym (m .used) ∙ empty)))
-              (λ x _ ready same. absurd (not-both (t .state) (ap (λ (j : ℕ). task s j .state) (sym same) ∙ ready) idle))))
+      let empty : t .«in_use» ≡ false = not-true (t .«in_use») (firstPlace-passes (λ (t : TaskControlBlock). not (t .«in_use»)) (s .tasks) emptyRecord (omega (arith, ltb-true free 64 low, k .slots))) in
+      let idle : isState (t .state) Ready ≡ false = free-idle t (k .good free) empty in
+      quiet refl (put s k free (created tid band context cr3 rsp0) (ltb-true free 64 low)
+      (record { in-use = refl; mask = λ e. omega arith; budget = inl refl; consumed = slice-positive band })
+      (λ b. sym (due-idle b t idle))
+      (λ m. absurd (true≢false (sym (m .used) ∙ empty)))
+      (λ x _ ready same. absurd (not-both (t .state) (ap (λ (j : ℕ). task s j .state) (sym same) ∙ ready) idle))))
       (λ _. quietly (Create tid band context cr3 rsp0) s k)
 
   affinity-course : (i : Slot) (mask : ℕ) → CourseOf (Affinity i mask) s (affinity (i .0) mask s) unreached
@@ -95,10 +95,10 @@ module _ (s : State) (k : Kept s) where
   affinity-course i mask =
       by-if (λ (o : Outcome). CourseOf (Affinity i mask) s o unreached) (ltb (i .0) 64)
       (λ low. quiet refl (put s k (i .0) (withMask (task s (i .0)) (storedMask mask)) (ltb-true (i .0) 64 low)
-          (record { in-use = k .good (i .0) .in-use; mask = storedMask-nonzero mask; budget = k .good (i .0) .budget; consumed = k .good (i .0) .consumed })
-          (λ b. refl)
-          (λ m. record { used = m .used; armed = m .armed })
-          (λ x sx _ same. absurd (eqb-false (i .0) x sx (sym same)))))
+      (record { in-use = k .good (i .0) .in-use; mask = storedMask-nonzero mask; budget = k .good (i .0) .budget; consumed = k .good (i .0) .consumed })
+      (λ b. refl)
+      (λ m. record { used = m .used; armed = m .armed })
+      (λ x sx _ same. absurd (eqb-false (i .0) x sx (sym same)))))
       (λ _. quietly (Affinity i mask) s k)
 
   -- no core holds the slot any more, and the others' holders stay
@@ -106,29 +106,30 @@ module _ (s : State) (k : Kept s) where
   let-go i low =
       let none-stays : released i nobody ≡ nobody = by-if (λ (h : ℕ). h ≡ nobody) (eqb nobody i) (λ _. refl) (λ _. refl) in
       let read : (c : ℕ) → holder (outOfHolders i s) c ≡ released i (holder s c) = λ c.
-          ap (getD (map (released i) (s .holders)) c) (sym none-stays) ∙ List·getD-map (released i) (s .holders) c nobody in
-      (holders s k (map (released i) (s .holders)) (length-map (s .holders) (released i) ∙ k .cores)
-          (λ c. subst (λ (h : ℕ). (h ≡ nobody) ⊎ MayHold (task s h)) (sym (read c)) (by-if (λ (h : ℕ). (h ≡ nobody) ⊎ MayHold (task s h)) (eqb (holder s c) i) (λ _. inl refl) (λ _. k .held c))),
-      λ c is.
-          split (λ (b : Bool). eqb (holder s c) i ≡ b → cond b nobody (holder s c) ≡ i → ⊥) (eqb (holder s c) i)
-          (λ _ _ e. omega arith)
-          (λ _ other e. eqb-false (holder s c) i other e)
-          refl (sym (read c) ∙ is))
+      ap (getD (map (released i) (s .holders)) c) (sym none-stays) ∙ List·getD-map (released i) (s .holders) c nobody in (
+        holders s k (map (released i) (s .holders)) (length-map (s .holders) (released i) ∙ k .cores)
+            (λ c. subst (λ (h : ℕ). (h ≡ nobody) ⊎ MayHold (task s h)) (sym (read c)) (by-if (λ (h : ℕ). (h ≡ nobody) ⊎ MayHold (task s h)) (eqb (holder s c) i) (λ _. inl refl) (λ _. k .held c))),
+        λ c is.
+            split (λ (b : Bool). eqb (holder s c) i ≡ b → cond b nobody (holder s c) ≡ i → ⊥) (eqb (holder s c) i)
+            (λ _ _ e. omega arith)
+            (λ _ other e. eqb-false (holder s c) i other e)
+            refl (sym (read c) ∙ is),
+      )
 
   terminate-course : (i : Slot) → CourseOf (Terminate i) s (terminate (i .0) s) unreached
   unfolding terminate
   terminate-course i =
       by-if (λ (o : Outcome). CourseOf (Terminate i) s o unreached) (ltb (i .0) 64)
       (λ low.
-          let t : State = outOfHolders (i .0) s in
-          let gone : Fine (Untouched (Terminate i)) s t × ((c : ℕ) → holder t c ≡ i .0 → ⊥) = let-go (i .0) (ltb-true (i .0) 64 low) in
-          let good : Good (task s (i .0)) = k .good (i .0) in
-          quiet refl (then s t (withTask (outOfQueues (i .0) t) (i .0) (terminated (task s (i .0)))) (gone .0)
-              (out t (gone .0 .kept) (i .0) (terminated (task s (i .0))) (ltb-true (i .0) 64 low)
-                  (record { in-use = refl; mask = good .mask; budget = good .budget; consumed = good .consumed })
-                  refl
-                  (λ c is. absurd (gone .1 c is))
-                  (λ x sx same. eqb-false (i .0) x sx (sym same)))))
+      let t : State = outOfHolders (i .0) s in
+      let gone : Fine (Untouched (Terminate i)) s t × ((c : ℕ) → holder t c ≡ i .0 → ⊥) = let-go (i .0) (ltb-true (i .0) 64 low) in
+      let good : Good (task s (i .0)) = k .good (i .0) in
+      quiet refl (then s t (withTask (outOfQueues (i .0) t) (i .0) (terminated (task s (i .0)))) (gone .0)
+      (out t (gone .0 .kept) (i .0) (terminated (task s (i .0))) (ltb-true (i .0) 64 low)
+      (record { in-use = refl; mask = good .mask; budget = good .budget; consumed = good .consumed })
+      refl
+      (λ c is. absurd (gone .1 c is))
+      (λ x sx same. eqb-false (i .0) x sx (sym same)))))
       (λ _. quietly (Terminate i) s k)
 
   block-course : (i : Slot) → CourseOf (Block i) s (block (i .0) s) unreached
@@ -137,14 +138,14 @@ module _ (s : State) (k : Kept s) where
       let t : TaskControlBlock = task s (i .0) in
       by-if (λ (o : Outcome). CourseOf (Block i) s o unreached) (inUse s (i .0))
       (λ used. by-if (λ (o : Outcome). CourseOf (Block i) s o unreached) (isState (t .state) Blocked)
-          (λ _. quietly (Block i) s k)
-          (λ _.
-              let low : i .0 < 64 = used-in-table s (k .slots) (i .0) used in
-              quiet refl (out s k (i .0) (blocked t) low
-                  (record { in-use = used; mask = k .good (i .0) .mask; budget = k .good (i .0) .budget; consumed = slice-positive (t .qos) })
-                  refl
-                  (λ c is. let m : MayHold t = holder-may s k c (i .0) low is in record { used = m .used; armed = m .armed })
-                  (λ x sx same. eqb-false (i .0) x sx (sym same)))))
+      (λ _. quietly (Block i) s k)
+      (λ _.
+      let low : i .0 < 64 = used-in-table s (k .slots) (i .0) used in
+      quiet refl (out s k (i .0) (blocked t) low
+      (record { in-use = used; mask = k .good (i .0) .mask; budget = k .good (i .0) .budget; consumed = slice-positive (t .qos) })
+      refl
+      (λ c is. let m : MayHold t = holder-may s k c (i .0) low is in record { used = m .used; armed = m .armed })
+      (λ x sx same. eqb-false (i .0) x sx (sym same)))))
       (λ _. quietly (Block i) s k)
 
   -- for any call: one that is done by an enqueue
@@ -154,8 +155,8 @@ module _ (s : State) (k : Kept s) where
       let Ends : Outcome → Type 0 = λ (o : Outcome). CourseOf call s o unreached in
       by-if Ends (inUse s i)
       (λ used. by-if Ends (isState (task s i .state) Ready)
-          (λ _. quietly call s k)
-          (λ idle. by-if Ends (full (queue s (task s i .qos))) (λ _. quietly call s k) (λ _. quiet refl (to-tail s k i used idle))))
+      (λ _. quietly call s k)
+      (λ idle. by-if Ends (full (queue s (task s i .qos))) (λ _. quietly call s k) (λ _. quiet refl (to-tail s k i used idle))))
       (λ _. quietly call s k)
 
   wake-course : (i : Slot) → CourseOf (Wake i) s (wake (i .0) s) unreached
@@ -165,16 +166,16 @@ module _ (s : State) (k : Kept s) where
       let t : TaskControlBlock = task s (i .0) in
       by-if Ends (inUse s (i .0))
       (λ used. by-if Ends (isState (t .state) Blocked)
-          (λ is. by-if Ends (ltb (coreHolding s (i .0)) 64)
-              (λ _.
-                  let idle : isState (t .state) Ready ≡ false = ap (λ (st : ThreadState). isState st Ready) (isState-true (t .state) Blocked is) in
-                  quiet refl (put s k (i .0) (withState t Running) (used-in-table s (k .slots) (i .0) used)
-                      (record { in-use = used; mask = k .good (i .0) .mask; budget = k .good (i .0) .budget; consumed = k .good (i .0) .consumed })
-                      (λ b. sym (due-idle b t idle))
-                      (λ m. record { used = m .used; armed = m .armed })
-                      (λ x _ ready same. absurd (not-both (t .state) (ap (λ (j : ℕ). task s j .state) (sym same) ∙ ready) idle))))
-              (λ _. enqueues (Wake i) (i .0)))
-          (λ _. quietly (Wake i) s k))
+      (λ is. by-if Ends (ltb (coreHolding s (i .0)) 64)
+      (λ _.
+      let idle : isState (t .state) Ready ≡ false = ap (λ (st : ThreadState). isState st Ready) (isState-true (t .state) Blocked is) in
+      quiet refl (put s k (i .0) (withState t Running) (used-in-table s (k .slots) (i .0) used)
+      (record { in-use = used; mask = k .good (i .0) .mask; budget = k .good (i .0) .budget; consumed = k .good (i .0) .consumed })
+      (λ b. sym (due-idle b t idle))
+      (λ m. record { used = m .used; armed = m .armed })
+      (λ x _ ready same. absurd (not-both (t .state) (ap (λ (j : ℕ). task s j .state) (sym same) ∙ ready) idle))))
+      (λ _. enqueues (Wake i) (i .0)))
+      (λ _. quietly (Wake i) s k))
       (λ _. quietly (Wake i) s k)
 
   -- ---- calls on cores
@@ -248,39 +249,39 @@ module _ (s : State) (k : Kept s) (call : Call) (c : ℕ) (low : c < 64) (names 
       let i : ℕ = h .0 in
       let may : MayHold (task s i) = holder-is s k c h is in
       split (λ (b : Bool). Course call s
-          (cond b (ruleP c (cleared c s)) (cond (sliceOver i elapsed c s) (ruleP c (requeued i s)) (keepsOn h elapsed s)) .pick)
-          (cond b (ruleP c (cleared c s)) (cond (sliceOver i elapsed c s) (ruleP c (requeued i s)) (keepsOn h elapsed s)) .state)
-          (cond b (reaches (cleared c s) c) (cond (sliceOver i elapsed c s) (reaches (outOfSlice i s) c) unreached)))
+      (cond b (ruleP c (cleared c s)) (cond (sliceOver i elapsed c s) (ruleP c (requeued i s)) (keepsOn h elapsed s)) .pick)
+      (cond b (ruleP c (cleared c s)) (cond (sliceOver i elapsed c s) (ruleP c (requeued i s)) (keepsOn h elapsed s)) .state)
+      (cond b (reaches (cleared c s) c) (cond (sliceOver i elapsed c s) (reaches (outOfSlice i s) c) unreached)))
       (isState (task s i .state) Blocked)
       (λ _. clear-to-P)
       (λ _. split (λ (b : Bool). sliceOver i elapsed c s ≡ b → Course call s
-              (cond b (ruleP c (requeued i s)) (keepsOn h elapsed s) .pick)
-              (cond b (ruleP c (requeued i s)) (keepsOn h elapsed s) .state)
-              (cond b (reaches (outOfSlice i s) c) unreached))
-          (sliceOver i elapsed c s)
-          (λ _ _.
-              let ends : Fine (Untouched call) s (outOfSlice i s) × (requeued i s ≡ outOfSlice i s) = slice-ends s k i (may .used) in
-              reaching (outOfSlice i s) c low names (ends .0) (ap (λ (t : State). ruleP c t .pick) (ends .1)) (ap (λ (t : State). ruleP c t .state) (ends .1)))
-          (λ _ on.
-              let budget : ℕ = task s i .«slice_budget_us» in
-              let sum : ℕ = charged i elapsed s in
-              let short : sum < budget = leb-false budget sum (or-left (leb budget sum) (waitsBefore (task s i .qos) s c) on) in
-              quiet refl (consumes s k i sum (may .used) (let below : sum < slice (task s i .qos) = omega (arith, may .armed) in below)))
-          refl)
+      (cond b (ruleP c (requeued i s)) (keepsOn h elapsed s) .pick)
+      (cond b (ruleP c (requeued i s)) (keepsOn h elapsed s) .state)
+      (cond b (reaches (outOfSlice i s) c) unreached))
+      (sliceOver i elapsed c s)
+      (λ _ _.
+      let ends : Fine (Untouched call) s (outOfSlice i s) × (requeued i s ≡ outOfSlice i s) = slice-ends s k i (may .used) in
+      reaching (outOfSlice i s) c low names (ends .0) (ap (λ (t : State). ruleP c t .pick) (ends .1)) (ap (λ (t : State). ruleP c t .state) (ends .1)))
+      (λ _ on.
+      let budget : ℕ = task s i .«slice_budget_us» in
+      let sum : ℕ = charged i elapsed s in
+      let short : sum < budget = leb-false budget sum (or-left (leb budget sum) (waitsBefore (task s i .qos) s c) on) in
+      quiet refl (consumes s k i sum (may .used) (let below : sum < slice (task s i .qos) = omega (arith, may .armed) in below)))
+      refl)
 
   yield-course : (h : SlotOption) → holderOf s c ≡ h → CourseOf call s (yieldHolder h c s) (yieldReach h c s)
   yield-course slot.None is = to-P s (stay s k)
   yield-course (slot.Some h) is =
       let i : ℕ = h .0 in
       split (λ (b : Bool). isState (task s i .state) Running ≡ b → CourseOf call s
-              (cond b (andThen (enqueue i s) (λ t. answerPlan (slot.Some h) (ruleP c (cleared c t)))) (refused NoSuchTask s))
-              (cond b (reaches (cleared c (enqueued i s)) c) unreached))
+      (cond b (andThen (enqueue i s) (λ t. answerPlan (slot.Some h) (ruleP c (cleared c t)))) (refused NoSuchTask s))
+      (cond b (reaches (cleared c (enqueued i s)) c) unreached))
       (isState (task s i .state) Running)
       (λ _ runs.
-          let used : task s i .«in_use» ≡ true = holder-is s k c h is .used in
-          let idle : isState (task s i .state) Ready ≡ false = ap (λ (st : ThreadState). isState st Ready) (isState-true (task s i .state) Running runs) in
-          let queued : Fine (Untouched call) s (enqueued i s) = to-tail s k i used idle in
-          rw (enqueue-done s k i used idle) (to-P (cleared c (enqueued i s)) (then s (enqueued i s) (cleared c (enqueued i s)) queued (hold (enqueued i s) (queued .kept) c nobody low (inl refl)))))
+      let used : task s i .«in_use» ≡ true = holder-is s k c h is .used in
+      let idle : isState (task s i .state) Ready ≡ false = ap (λ (st : ThreadState). isState st Ready) (isState-true (task s i .state) Running runs) in
+      let queued : Fine (Untouched call) s (enqueued i s) = to-tail s k i used idle in
+      rw (enqueue-done s k i used idle) (to-P (cleared c (enqueued i s)) (then s (enqueued i s) (cleared c (enqueued i s)) queued (hold (enqueued i s) (queued .kept) c nobody low (inl refl)))))
       (λ _ _. quietly call s k)
       refl
 

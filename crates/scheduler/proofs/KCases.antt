@@ -20,10 +20,10 @@ use Rattle.scheduler.specs.Step.{step, run}
 use Rattle.scheduler.specs.Paper.{paper}
 
 pub record Case : Type 0 where
-  pub got : List ℕ
-  pub want : List ℕ
+  pub got : List (List ℕ)
+  pub want : List (List ℕ)
 
--- ---- the calls of the cases
+-- ---- the calls
 
 abbrev slot : ℕ → Slot
 slot n = record { 0 = n }
@@ -31,87 +31,105 @@ slot n = record { 0 = n }
 abbrev make : QoSClass → Call
 make band = Create (record { 0 = 7 }) band 0 0 0
 
--- n tasks of a band, in slots 0 to n - 1, and then enqueued in that order
-abbrev threeOf : QoSClass → List Call
-threeOf band = make band ∷ make band ∷ make band ∷ Enqueue (slot 0) ∷ Enqueue (slot 1) ∷ Enqueue (slot 2) ∷ []
+-- as many tasks of a band, made and enqueued in the order of their slots
+abbrev one : QoSClass → List Call
+one band = make band ∷ Enqueue (slot 0) ∷ []
 
-abbrev twoOf : QoSClass → List Call
-twoOf band = make band ∷ make band ∷ Enqueue (slot 0) ∷ Enqueue (slot 1) ∷ []
+abbrev two : QoSClass → List Call
+two band = make band ∷ make band ∷ Enqueue (slot 0) ∷ Enqueue (slot 1) ∷ []
 
-abbrev oneOf : QoSClass → List Call
-oneOf band = make band ∷ Enqueue (slot 0) ∷ []
+abbrev four : QoSClass → List Call
+four band = make band ∷ make band ∷ make band ∷ make band ∷ Enqueue (slot 0) ∷ Enqueue (slot 1) ∷ Enqueue (slot 2) ∷ Enqueue (slot 3) ∷ []
 
--- for core 0 only
 abbrev onlyCore0 : ℕ → Call
 onlyCore0 n = Affinity (slot n) 1
 
--- the state after the calls, and the numbers that the next call answers there
+-- what each case starts from
+abbrev k4 : List Call
+k4 = four UserInteractive ++ onlyCore0 0 ∷ onlyCore0 1 ∷ []
+
+abbrev k5 : List Call
+k5 = two UserInteractive ++ onlyCore0 0 ∷ onlyCore0 1 ∷ []
+
+abbrev k6 : List Call
+k6 = two UserInteractive ++ Schedule 0 ∷ []
+
+abbrev k7 : List Call
+k7 = one Background ++ Schedule 0 ∷ make RealTimeIO ∷ Enqueue (slot 1) ∷ []
+
+abbrev k8 : List Call
+k8 = one UserInteractive ++ Schedule 5 ∷ Block (slot 0) ∷ Wake (slot 0) ∷ []
+
+abbrev k11 : List Call
+k11 = one UserInteractive ++ Schedule 0 ∷ Enqueue (slot 0) ∷ []
+
+-- ---- what is looked at: the next call's answer, a band's queue, a slot's state, a core's holder
+
 abbrev after : List Call → State
 after calls = run calls newState
 
 abbrev answer : List Call → Call → List ℕ
 answer calls call = paper (step call (after calls) .answer)
 
+abbrev waiting : List Call → QoSClass → List ℕ
+waiting calls band = queue (after calls) band
+
+abbrev stateOf : List Call → ℕ → List ℕ
+stateOf calls n = stateCode (task (after calls) n .state) ∷ []
+
+abbrev heldBy : List Call → ℕ → List ℕ
+heldBy calls core = holder (after calls) core ∷ []
+
 -- ---- the table
-
-abbrev four : List Call
-four = threeOf UserInteractive ++ make UserInteractive ∷ Enqueue (slot 3) ∷ onlyCore0 0 ∷ onlyCore0 1 ∷ []
-
-abbrev forbidden : List Call
-forbidden = threeOf UserInteractive ++ onlyCore0 0 ∷ onlyCore0 1 ∷ onlyCore0 2 ∷ []
-
-abbrev used1999 : List Call
-used1999 = twoOf UserInteractive ++ Schedule 0 ∷ Tick 0 1999 ∷ []
-
-abbrev heldInBand2 : List Call
-heldInBand2 = oneOf Background ++ Schedule 0 ∷ make RealTimeIO ∷ Enqueue (slot 1) ∷ []
-
-abbrev wokenHolder : List Call
-wokenHolder = oneOf UserInteractive ++ Schedule 5 ∷ Block (slot 0) ∷ Wake (slot 0) ∷ []
-
-abbrev enqueuedHolder : List Call
-enqueuedHolder = oneOf UserInteractive ++ Schedule 0 ∷ Enqueue (slot 0) ∷ []
 
 abbrev pub cases : List Case
 cases =
-    -- K1 "new, schedule: none"
-    record { got = answer [] (Schedule 0); want = 0 ∷ 255 ∷ 255 ∷ 255 ∷ [] } ∷
-    -- K2 "the 65th create: 1"; the 64th still gets slot 63
-    record { got = answer (replicate 64 (make Background)) (make Background); want = 1 ∷ 255 ∷ 255 ∷ [] } ∷
-    record { got = answer (replicate 63 (make Background)) (make Background); want = 0 ∷ 255 ∷ 255 ∷ 63 ∷ [] } ∷
-    -- K3 "mask 0 on a free slot: all ones"
+    -- K1 "new, schedule: none."
+    record { got = answer [] (Schedule 0) ∷ []; want = (0 ∷ 255 ∷ 255 ∷ 255 ∷ []) ∷ [] } ∷
+    -- K2 "the 65th create: 1"; the 64th gets slot 63
     record {
-      got = task (after (Affinity (slot 9) 6 ∷ Affinity (slot 9) 0 ∷ [])) 9 .«cpu_affinity» ∷ answer [] (Affinity (slot 9) 0);
-      want = 18446744073709551615 ∷ 0 ∷ 255 ∷ 255 ∷ [];
+      got = answer (replicate 63 (make Background)) (make Background) ∷ answer (replicate 64 (make Background)) (make Background) ∷ [];
+      want = (0 ∷ 255 ∷ 255 ∷ 63 ∷ []) ∷ (1 ∷ 255 ∷ 255 ∷ []) ∷ [];
     } ∷
-    -- K4 "core 1 picks 2, leaving 3, 0, 1 (mistake: 0, 1, 3)"
-    record { got = answer four (Schedule 1); want = 0 ∷ 2 ∷ 0 ∷ 2 ∷ [] } ∷
-    record { got = queue (after (four ++ Schedule 1 ∷ [])) UserInteractive; want = 3 ∷ 0 ∷ 1 ∷ [] } ∷
-    -- K5 "nobody permitted: order kept"
-    record { got = answer forbidden (Schedule 1); want = 0 ∷ 255 ∷ 255 ∷ 255 ∷ [] } ∷
-    record { got = queue (after (forbidden ++ Schedule 1 ∷ [])) UserInteractive; want = 0 ∷ 1 ∷ 2 ∷ [] } ∷
-    -- K6 "band 0, consumed 1,999 stays; 1 more ends the slice"
-    record { got = answer (twoOf UserInteractive ++ Schedule 0 ∷ []) (Tick 0 1999); want = 0 ∷ 255 ∷ 255 ∷ 0 ∷ [] } ∷
-    record { got = task (after used1999) 0 .«consumed_slice_us» ∷ []; want = 1999 ∷ [] } ∷
-    record { got = answer used1999 (Tick 0 1); want = 0 ∷ 1 ∷ 0 ∷ 1 ∷ [] } ∷
-    -- K7 "band 2 held, band 1 waiting and permitted, tick 0: switch"
-    record { got = answer heldInBand2 (Tick 0 0); want = 0 ∷ 1 ∷ 1 ∷ 1 ∷ [] } ∷
-    -- K8 "block then wake of a holder: Running, no queue entry (mistake: queued)"
-    record { got = stateCode (task (after wokenHolder) 0 .state) ∷ holder (after wokenHolder) 5 ∷ []; want = 1 ∷ 0 ∷ [] } ∷
+    -- K3 "mask 0 on a free slot: all ones"; the slot had a mask before
     record {
-      got = queue (after wokenHolder) UserInteractive ++ queue (after wokenHolder) RealTimeIO ++ queue (after wokenHolder) Background;
-      want = [];
+      got = answer (Affinity (slot 9) 6 ∷ []) (Affinity (slot 9) 0) ∷ (task (after (Affinity (slot 9) 6 ∷ Affinity (slot 9) 0 ∷ [])) 9 .«cpu_affinity» ∷ []) ∷ [];
+      want = (0 ∷ 255 ∷ 255 ∷ []) ∷ (18446744073709551615 ∷ []) ∷ [];
+    } ∷
+    -- K4 "queue 0, 1, 2, 3, slots 0 and 1 for core 0 only: core 1 picks 2, leaving 3, 0, 1 (mistake: 0, 1, 3)"
+    record {
+      got = waiting k4 UserInteractive ∷ answer k4 (Schedule 1) ∷ waiting (k4 ++ Schedule 1 ∷ []) UserInteractive ∷ [];
+      want = (0 ∷ 1 ∷ 2 ∷ 3 ∷ []) ∷ (0 ∷ 2 ∷ 0 ∷ 2 ∷ []) ∷ (3 ∷ 0 ∷ 1 ∷ []) ∷ [];
+    } ∷
+    -- K5 "nobody permitted: order kept"
+    record {
+      got = answer k5 (Schedule 1) ∷ waiting (k5 ++ Schedule 1 ∷ []) UserInteractive ∷ [];
+      want = (0 ∷ 255 ∷ 255 ∷ 255 ∷ []) ∷ (0 ∷ 1 ∷ []) ∷ [];
+    } ∷
+    -- K6 "band 0, consumed 1,999 stays; 1 more ends the slice"
+    record {
+      got = answer k6 (Tick 0 1999) ∷ answer (k6 ++ Tick 0 1999 ∷ []) (Tick 0 1) ∷ [];
+      want = (0 ∷ 255 ∷ 255 ∷ 0 ∷ []) ∷ (0 ∷ 1 ∷ 0 ∷ 1 ∷ []) ∷ [];
+    } ∷
+    -- K7 "band 2 held, band 1 waiting and permitted, tick 0: switch"
+    record { got = heldBy k7 0 ∷ answer k7 (Tick 0 0) ∷ []; want = (0 ∷ []) ∷ (0 ∷ 1 ∷ 1 ∷ 1 ∷ []) ∷ [] } ∷
+    -- K8 "block then wake of a holder: Running, no queue entry (mistake: queued)"
+    record {
+      got = heldBy k8 5 ∷ stateOf k8 0 ∷ waiting k8 UserInteractive ∷ waiting k8 RealTimeIO ∷ waiting k8 Background ∷ [];
+      want = (0 ∷ []) ∷ (1 ∷ []) ∷ [] ∷ [] ∷ [] ∷ [];
     } ∷
     -- K9 "tick on core 64: microseconds unmoved (mistake: counted)"
-    record { got = answer (Tick 3 500 ∷ []) (Tick 64 100); want = 0 ∷ 255 ∷ 255 ∷ 255 ∷ [] } ∷
-    record { got = after (Tick 3 500 ∷ Tick 64 100 ∷ []) .micros ∷ []; want = 500 ∷ [] } ∷
+    record {
+      got = answer (Tick 3 500 ∷ []) (Tick 64 100) ∷ (after (Tick 3 500 ∷ Tick 64 100 ∷ []) .micros ∷ []) ∷ [];
+      want = (0 ∷ 255 ∷ 255 ∷ 255 ∷ []) ∷ (500 ∷ []) ∷ [];
+    } ∷
     -- K10 "yield of the only task: no plan, yet a pick"
-    record { got = answer (oneOf UserInteractive ++ Schedule 0 ∷ []) (Yield 0); want = 0 ∷ 0 ∷ 0 ∷ 0 ∷ [] } ∷
+    record { got = answer (one UserInteractive ++ Schedule 0 ∷ []) (Yield 0) ∷ []; want = (0 ∷ 0 ∷ 0 ∷ 0 ∷ []) ∷ [] } ∷
     -- K11 "enqueue of a holder: Ready and still holder; yield 3, handoff 6 (mistake: holder means Running)"
-    record { got = stateCode (task (after enqueuedHolder) 0 .state) ∷ holder (after enqueuedHolder) 0 ∷ []; want = 0 ∷ 0 ∷ [] } ∷
-    record { got = answer enqueuedHolder (Yield 0); want = 3 ∷ 255 ∷ 255 ∷ [] } ∷
-    record { got = answer enqueuedHolder (Handoff 0); want = 6 ∷ 255 ∷ 255 ∷ [] } ∷
-    []
+    record {
+      got = stateOf k11 0 ∷ heldBy k11 0 ∷ answer k11 (Yield 0) ∷ answer k11 (Handoff 0) ∷ [];
+      want = (0 ∷ []) ∷ (0 ∷ []) ∷ (3 ∷ 255 ∷ 255 ∷ []) ∷ (6 ∷ 255 ∷ 255 ∷ []) ∷ [];
+    } ∷ []
 
 pub k1-to-k11 : map (λ (c : Case). c .got) cases ≡ map (λ (c : Case). c .want) cases
 unfolding firstPlace pushed without entryAt takenAt choice ruleP schedule create affinity block wake enqueue ticked tick yield handoff run paper

@@ -39,10 +39,10 @@ pub due-is : (band : QoSClass) (t : TaskControlBlock) → 1 ≤ due band t → R
 due-is band t =
     split (λ (r : Bool). isState (t .state) Ready ≡ r → 1 ≤ cond (r && eqb (bandCode (t .qos)) (bandCode band)) 1 0 → ReadyOf band t) (isState (t .state) Ready)
     (λ _ ready.
-        split (λ (b : Bool). eqb (bandCode (t .qos)) (bandCode band) ≡ b → 1 ≤ cond b 1 0 → ReadyOf band t) (eqb (bandCode (t .qos)) (bandCode band))
-        (λ _ is _. record { ready = isState-true (t .state) Ready ready; of-band = bandCode-one (t .qos) band (eqb-true (bandCode (t .qos)) (bandCode band) is) })
-        (λ _ _ h. absurd (omega arith))
-        refl)
+    split (λ (b : Bool). eqb (bandCode (t .qos)) (bandCode band) ≡ b → 1 ≤ cond b 1 0 → ReadyOf band t) (eqb (bandCode (t .qos)) (bandCode band))
+    (λ _ is _. record { ready = isState-true (t .state) Ready ready; of-band = bandCode-one (t .qos) band (eqb-true (bandCode (t .qos)) (bandCode band) is) })
+    (λ _ _ h. absurd (omega arith))
+    refl)
     (λ _ _ h. absurd (omega arith))
     refl
 
@@ -109,13 +109,13 @@ bounded zero [] below once = omega arith
 bounded zero (e ∷ es) below once = absurd (omega (arith, below e (count-entry 0 (e ∷ es) (omega arith))))
 bounded (suc n) es below once =
     let fewer : (i : ℕ) → count i (without n es) ≤ count i es = λ i.
-        split (λ (b : Bool). eqb i n ≡ b → count i (without n es) ≤ count i es) (eqb i n)
-        (λ _ is. rw (eqb-true i n is) (omega (arith, count-without-same n es)))
-        (λ _ other. omega (arith, count-without-other n i es (eqb-false i n other)))
-        refl in
+    split (λ (b : Bool). eqb i n ≡ b → count i (without n es) ≤ count i es) (eqb i n)
+    (λ _ is. rw (eqb-true i n is) (omega (arith, count-without-same n es)))
+    (λ _ other. omega (arith, count-without-other n i es (eqb-false i n other)))
+    refl in
     let lower : (i : ℕ) → 1 ≤ count i (without n es) → i < n = λ i h.
-        let apart : i ≡ n → ⊥ = λ same. let none : count i (without n es) ≡ 0 = ap (λ (k : ℕ). count k (without n es)) same ∙ count-without-same n es in absurd (omega arith) in
-        omega (arith, below i (let more : 1 ≤ count i es = omega (arith, fewer i) in more), apart) in
+    let apart : i ≡ n → ⊥ = λ same. let none : count i (without n es) ≡ 0 = ap (λ (k : ℕ). count k (without n es)) same ∙ count-without-same n es in absurd (omega arith) in
+    omega (arith, below i (let more : 1 ≤ count i es = omega (arith, fewer i) in more), apart) in
     omega (arith, length-without n es, once n, bounded n (without n es) lower (λ i. let few : count i (without n es) ≤ 1 = omega (arith, fewer i, once i) in few))
 
 module _ (s : State) (k : Kept s) where
@@ -136,17 +136,17 @@ module _ (s : State) (k : Kept s) where
   never-full band slot low waits-not =
       let es : List ℕ = queue s band in
       let absent : count slot es ≡ 0 = k .queued band slot ∙ due-not band (task s slot) (λ r.
-          true≢false (ap (λ (st : ThreadState). isState st Ready) (sym (r .ready)) ∙ waits-not)) in
+      true≢false (ap (λ (st : ThreadState). isState st Ready) (sym (r .ready)) ∙ waits-not)) in
       let split-count : (i : ℕ) → count i (slot ∷ es) ≡ count i (slot ∷ []) + count i es = λ i. count-append i (slot ∷ []) es in
       let room : length (slot ∷ es) ≤ 64 = bounded 64 (slot ∷ es)
-          (λ i. split (λ (b : Bool). eqb i slot ≡ b → 1 ≤ count i (slot ∷ es) → i < 64) (eqb i slot)
-              (λ _ is _. omega (arith, eqb-true i slot is))
-              (λ _ other h. entry-below band i (let more : 1 ≤ count i es = omega (arith, split-count i, count-other i slot (eqb-false i slot other)) in more))
-              refl)
-          (λ i. split (λ (b : Bool). eqb i slot ≡ b → count i (slot ∷ es) ≤ 1) (eqb i slot)
-              (λ _ is. rw (eqb-true i slot is) (omega (arith, split-count slot, count-one slot)))
-              (λ _ other. omega (arith, split-count i, count-other i slot (eqb-false i slot other), entry-once band i))
-              refl) in
+      (λ i. split (λ (b : Bool). eqb i slot ≡ b → 1 ≤ count i (slot ∷ es) → i < 64) (eqb i slot)
+      (λ _ is _. omega (arith, eqb-true i slot is))
+      (λ _ other h. entry-below band i (let more : 1 ≤ count i es = omega (arith, split-count i, count-other i slot (eqb-false i slot other)) in more))
+      refl)
+      (λ i. split (λ (b : Bool). eqb i slot ≡ b → count i (slot ∷ es) ≤ 1) (eqb i slot)
+      (λ _ is. rw (eqb-true i slot is) (omega (arith, split-count slot, count-one slot)))
+      (λ _ other. omega (arith, split-count i, count-other i slot (eqb-false i slot other), entry-once band i))
+      refl) in
       lt-leb 64 (length es) (let less : length es < 64 = omega arith in less)
 
 -- ---- the two forms are one
@@ -167,8 +167,8 @@ kept-accepted s k = record {
   once = λ slot _ ready.
       let t : TaskControlBlock = task s slot in
       let dues : due UserInteractive t + (due RealTimeIO t + due Background t) ≡ 1 =
-          let is : isState (t .state) Ready ≡ true = ap (λ (st : ThreadState). isState st Ready) ready in
-          rw is (one-band (t .qos)) in
+      let is : isState (t .state) Ready ≡ true = ap (λ (st : ThreadState). isState st Ready) ready in
+      rw is (one-band (t .qos)) in
       omega (arith, k .queued UserInteractive slot, k .queued RealTimeIO slot, k .queued Background slot);
   holders = λ core _. k .held core;
   budgets = λ slot _. k .good slot .budget;

@@ -10,4 +10,5 @@ pub mod Calls
 pub mod Waiting
 pub mod Refusals
 pub mod Pins
+pub mod Worked
 pub mod KCases

@@ -41,18 +41,18 @@ cut test (e ∷ l) =
     split (λ (b : Bool). cond b 0 (suc (firstPlace test l)) < suc (length l) → Cut test (e ∷ l) (cond b 0 (suc (firstPlace test l)))) (test e)
     (λ passes _. record { front = []; entry = e; behind = l; whole = refl; place-is = refl; passes = passes; skipped = λ x _. refl })
     (λ fails h.
-        let c : Cut test l (firstPlace test l) = cut test l (omega arith) in
-        record {
-          front = e ∷ c .front;
-          entry = c .entry;
-          behind = c .behind;
-          whole = ap (λ (r : List ℕ). e ∷ r) (c .whole);
-          place-is = ap suc (c .place-is);
-          passes = c .passes;
-          skipped = λ x px.
-              let apart : e ≡ x → ⊥ = λ same. true≢false (sym px ∙ ap test (sym same) ∙ fails) in
-              rw (ne-eqb e x apart) (omega (arith, c .skipped x px));
-        })
+    let c : Cut test l (firstPlace test l) = cut test l (omega arith) in
+    record {
+      front = e ∷ c .front;
+      entry = c .entry;
+      behind = c .behind;
+      whole = ap (λ (r : List ℕ). e ∷ r) (c .whole);
+      place-is = ap suc (c .place-is);
+      passes = c .passes;
+      skipped = λ x px.
+          let apart : e ≡ x → ⊥ = λ same. true≢false (sym px ∙ ap test (sym same) ∙ fails) in
+          rw (ne-eqb e x apart) (omega (arith, c .skipped x px));
+    })
 
 -- an entry that passes is not overlooked
 pub firstPlace-found : (test : ℕ → Bool) (l : List ℕ) (x : ℕ) → test x ≡ true → 1 ≤ count x l → firstPlace test l < length l
@@ -62,9 +62,9 @@ firstPlace-found test (e ∷ l) x px h =
     split (λ (b : Bool). test e ≡ b → cond b 0 (suc (firstPlace test l)) < suc (length l)) (test e)
     (λ _ _. omega arith)
     (λ _ fails.
-        let apart : e ≡ x → ⊥ = λ same. true≢false (sym px ∙ ap test (sym same) ∙ fails) in
-        let behind : 1 ≤ count x l = let h2 : 1 ≤ cond false 1 0 + count x l = rw (ne-eqb e x apart) at h in omega arith in
-        omega (arith, firstPlace-found test l x px behind))
+    let apart : e ≡ x → ⊥ = λ same. true≢false (sym px ∙ ap test (sym same) ∙ fails) in
+    let behind : 1 ≤ count x l = let h2 : 1 ≤ cond false 1 0 + count x l = rw (ne-eqb e x apart) at h in omega arith in
+    omega (arith, firstPlace-found test l x px behind))
     refl
 
 -- ---- an entry that is counted has a place
@@ -138,9 +138,9 @@ before-without x y (e ∷ l) apart =
     split (λ (t : Bool). Sublistᴰ (before x (cond t (without y l) (e ∷ without y l))) (cond (eqb e x) [] (e ∷ before x l))) (eqb e y)
     (λ is. rw (ne-eqb e x (λ same. apart (sym same ∙ eqb-true e y is))) (Sublistᴰ·cons (before-without x y l apart)))
     (λ _.
-        split (λ (t : Bool). Sublistᴰ (cond t [] (e ∷ before x (without y l))) (cond t [] (e ∷ before x l))) (eqb e x)
-        (λ _. Sublistᴰ·slnil)
-        (λ _. Sublistᴰ·cons-cons refl (before-without x y l apart)))
+    split (λ (t : Bool). Sublistᴰ (cond t [] (e ∷ before x (without y l))) (cond t [] (e ∷ before x l))) (eqb e x)
+    (λ _. Sublistᴰ·slnil)
+    (λ _. Sublistᴰ·cons-cons refl (before-without x y l apart)))
 
 -- e is taken, x stands behind it: those then before x are those who stood between the two, and e was before them
 pub passed : (x : ℕ) (f : List ℕ) (e : ℕ) (t : List ℕ) → count x f ≡ 0 → (e ≡ x → ⊥) → 1 ≤ count x (f ++ e ∷ t) → Sublistᴰ (e ∷ before x (t ++ f)) (before x (f ++ e ∷ t))

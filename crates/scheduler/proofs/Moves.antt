@@ -106,7 +106,7 @@ move s k i r q c =
     held-still low core (inl none) = inl none
     held-still low core (inr m) =
         inr (each-set (λ (j : ℕ) (t : TaskControlBlock). holder s core ≡ j → MayHold t) (s .tasks) i r emptyRecord low
-            (c .may core) (λ j _ same. subst (λ (j2 : ℕ). MayHold (task s j2)) same m) (holder s core) refl)
+        (c .may core) (λ j _ same. subst (λ (j2 : ℕ). MayHold (task s j2)) same m) (holder s core) refl)
 
 -- whom a core holds may be held
 pub holder-may : (s : State) → Kept s → (core i : ℕ) → i < 64 → holder s core ≡ i → MayHold (task s i)

@@ -70,6 +70,7 @@ choice-is s core = go (firstPermitted s core UserInteractive) (firstPermitted s 
   where
     Empty : QoSClass → Type 0
     Empty b = firstPermitted s core b ≡ slot.None
+
     go : (u r b : SlotOption) → firstPermitted s core UserInteractive ≡ u → firstPermitted s core RealTimeIO ≡ r → firstPermitted s core Background ≡ b → Choice s core (foundIn UserInteractive u (foundIn RealTimeIO r (foundIn Background b pick.None)))
     go (slot.Some e) r b is-u is-r is-b = taken (record { slot = e; band = UserInteractive }) is-u (before-first Empty)
     go slot.None (slot.Some e) b is-u is-r is-b = taken (record { slot = e; band = RealTimeIO }) is-r (before-second Empty is-u)
@@ -123,7 +124,7 @@ module _ (s : State) (k : Kept s) (core : ℕ) (p : Pick) (is : firstPermitted s
       let entry-is : c .entry ≡ i = sym (getD-append-seam f (c .entry) t 0) ∙ (λ j. getD (sym (c .whole) j) (sym (c .place-is) j) 0) ∙ here .1 in
       let rest-is : rest ≡ t ++ f = (λ j. takenAt (c .place-is j) (c .whole j)) ∙ takenAt-cut f (c .entry) t in
       let around : Sublistᴰ (c .entry ∷ before x (t ++ f)) (before x (f ++ c .entry ∷ t)) =
-          passed x f (c .entry) t (c .skipped x may) (λ same. other (sym same ∙ entry-is)) (subst (λ (l : List ℕ). 1 ≤ count x l) (c .whole) there) in
+      passed x f (c .entry) t (c .skipped x may) (λ same. other (sym same ∙ entry-is)) (subst (λ (l : List ℕ). 1 ≤ count x l) (c .whole) there) in
       subst (λ (l : List ℕ). Sublistᴰ (i ∷ before x rest) (before x l)) (sym (c .whole))
       (subst (λ (l : List ℕ). Sublistᴰ l (before x (f ++ c .entry ∷ t))) (λ j. entry-is j ∷ before x (sym rest-is j)) around)
 

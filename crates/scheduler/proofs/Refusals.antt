@@ -51,8 +51,8 @@ module _ (may : SchedError → Type 0) (s : State) (m : May may s) where
   enqueue-ends i =
       by-if (Ending may s) (inUse s i)
       (λ used. by-if (Ending may s) (isState (task s i .state) Ready)
-          (λ _. refuse AlreadyReady (λ n. omega arith))
-          (λ idle. by-if (Ending may s) (full (queue s (task s i .qos))) (λ none-left. refuses QueueFull (m .two i used idle none-left) refl) (λ _. did refl)))
+      (λ _. refuse AlreadyReady (λ n. omega arith))
+      (λ idle. by-if (Ending may s) (full (queue s (task s i .qos))) (λ none-left. refuses QueueFull (m .two i used idle none-left) refl) (λ _. did refl)))
       (λ _. no-task)
 
   wake-ends : (i : ℕ) → Ending may s (wake i s)
@@ -60,8 +60,8 @@ module _ (may : SchedError → Type 0) (s : State) (m : May may s) where
   wake-ends i =
       by-if (Ending may s) (inUse s i)
       (λ _. by-if (Ending may s) (isState (task s i .state) Blocked)
-          (λ _. by-if (Ending may s) (ltb (coreHolding s i) 64) (λ _. did refl) (λ _. enqueue-ends i))
-          (λ _. refuse NotBlocked (λ n. omega arith)))
+      (λ _. by-if (Ending may s) (ltb (coreHolding s i) 64) (λ _. did refl) (λ _. enqueue-ends i))
+      (λ _. refuse NotBlocked (λ n. omega arith)))
       (λ _. no-task)
 
   block-ends : (i : ℕ) → Ending may s (block i s)

@@ -78,36 +78,41 @@ module _ (s : State) (k : Kept s) (x : ℕ) (ready : task s x .state ≡ Ready) 
     where
       i : ℕ
       i = p .slot .0
+
       rest : List ℕ
       rest = takenAt (placeFor s c (p .band)) (queue s (p .band))
+
       t : State
       t = afterPick s c (pick.Some p) .state
+
       not-behind : bandCode (p .band) ≤ bandCode mine
       not-behind =
           split (λ (b : Bool). leb (bandCode (p .band)) (bandCode mine) ≡ b → bandCode (p .band) ≤ bandCode mine) (leb (bandCode (p .band)) (bandCode mine))
           (λ _ yes-so. leb-true (bandCode (p .band)) (bandCode mine) yes-so)
           (λ _ later. absurd (not-overlooked s c mine x may (in-queue s k x ready) (earlier mine (leb-false (bandCode (p .band)) (bandCode mine) later))))
           refl
+
       own-band : (x ≡ i → ⊥) → p .band ≡ mine → Sublistᴰ (i ∷ before x (queue t mine)) (before x (queue s mine))
       own-band other same =
           subst (λ (b : QoSClass). Sublistᴰ (i ∷ before x (ofBand (withBand (s .queues) (p .band) rest) b)) (before x (queue s b))) same
           (subst (λ (l : List ℕ). Sublistᴰ (i ∷ before x l) (before x (queue s (p .band)))) (sym (ofBand-with (s .queues) (p .band) rest))
-              (pick-order s k c p is x other may (subst (λ (b : QoSClass). 1 ≤ count x (queue s b)) (sym same) (in-queue s k x ready))))
+          (pick-order s k c p is x other may (subst (λ (b : QoSClass). 1 ≤ count x (queue s b)) (sym same) (in-queue s k x ready))))
+
       goes-on : (isPick x (pick.Some p) ≡ true) ⊎ WaitsOn x s (pick.Some p) t
       goes-on =
           split (λ (b : Bool). eqb i x ≡ b → (b ≡ true) ⊎ WaitsOn x s (pick.Some p) t) (eqb i x)
           (λ _ _. inl refl)
           (λ _ differs.
-              let other : x ≡ i → ⊥ = λ same. eqb-false i x differs (sym same) in
-              let calm : Calm x s t = pick-held s k c p is low .calm x (other, may) ready in
-              inr (record {
-                alike = calm .alike;
-                order = rw differs (
-                    split (λ (b : Bool). eqb (bandCode (p .band)) (bandCode mine) ≡ b → Sublistᴰ (cond (b && true) (i ∷ before x (queue t mine)) (before x (queue t mine))) (before x (queue s mine))) (eqb (bandCode (p .band)) (bandCode mine))
-                    (λ _ same. own-band other (bandCode-one (p .band) mine (eqb-true (bandCode (p .band)) (bandCode mine) same)))
-                    (λ _ _. calm .order)
-                    refl);
-              }))
+          let other : x ≡ i → ⊥ = λ same. eqb-false i x differs (sym same) in
+          let calm : Calm x s t = pick-held s k c p is low .calm x (other, may) ready in
+          inr (record {
+            alike = calm .alike;
+            order = rw differs (
+                split (λ (b : Bool). eqb (bandCode (p .band)) (bandCode mine) ≡ b → Sublistᴰ (cond (b && true) (i ∷ before x (queue t mine)) (before x (queue t mine))) (before x (queue s mine))) (eqb (bandCode (p .band)) (bandCode mine))
+                (λ _ same. own-band other (bandCode-one (p .band) mine (eqb-true (bandCode (p .band)) (bandCode mine) same)))
+                (λ _ _. calm .order)
+                refl);
+          }))
           refl
 
   turn-P : Turn x s (ruleP c s .pick) (ruleP c s .state) × (ruleP c s .pick ≡ pick.None → ⊥)
@@ -131,7 +136,7 @@ module _ (s : State) (k : Kept s) (x : ℕ) (ready : task s x .state ≡ Ready) 
       let calm : Calm x s u = f .calm x left-alone ready in
       let may : permits (task u x .«cpu_affinity») c ≡ true = ap (λ (m : ℕ). permits m c) (calm .alike .mask) ∙ allowed (task s x .«cpu_affinity») c low (ap (forbids (task s x .«cpu_affinity»)) (sym names) ∙ may-use) in
       subst (λ (q : PickOption). Turn x s q t) (sym p-is) (subst (λ (v : State). Turn x s (ruleP c u .pick) v) (sym end-is)
-          (turn-after x s u (ruleP c u .state) (ruleP c u .pick) calm (turn-P u (f .kept) x (calm .alike .state ∙ ready) c low may .0)))
+      (turn-after x s u (ruleP c u .state) (ruleP c u .pick) calm (turn-P u (f .kept) x (calm .alike .state ∙ ready) c low may .0)))
 
   turn : Turn x s (step call s .answer .pick) (step call s .state)
   turn = turn-course (course call s k)
@@ -183,7 +188,7 @@ waits-on : (x : ℕ) (s t : State) (e : Event) (es : List Event) → task s x .s
 unfolding others Each
 waits-on x s t e es ready picks-so here w later =
     let on : Bound (task s x .qos) x (before x (queue t (task s x .qos))) es =
-        subst (λ (b : QoSClass). Bound b x (before x (queue t b)) es) (w .alike .band) (later (w .alike .state ∙ ready)) in
+    subst (λ (b : QoSClass). Bound b x (before x (queue t b)) es) (w .alike .band) (later (w .alike .state ∙ ready)) in
     record {
       schedules = (picks-so, on .schedules);
       bands = (here .bands, on .bands);
@@ -202,13 +207,13 @@ bound (call ∷ next) s k x ready =
     split (λ (b : Bool). breaks x e ≡ b → Holds (cond b [] (e ∷ cond (picks x e) [] (stretchOf x t next)))) (breaks x e)
     (λ _ _. no-calls band x (ahead s x))
     (λ _ unbroken.
-        let parts : (touches x call ≡ false) × (forbids (task s x .«cpu_affinity») (named call) ≡ false) = or-false (touches x call) _ unbroken in
-        let here : Turn x s o t = turn s k x ready call (parts .0) (parts .1) in
-        let picks-so : SchedulePicks e = schedule-picks s k x ready call (parts .0) (parts .1) in
-        split (λ (b : Bool). picks x e ≡ b → Holds (e ∷ cond b [] (stretchOf x t next))) (picks x e)
-        (λ _ own. record { schedules = (picks-so, tt); bands = (here .bands, tt); in-order = rw (others-own band x o [] own) (Sublistᴰ·nil-sublist (ahead s x)) })
-        (λ _ not-x. waits-on x s t e (stretchOf x t next) ready picks-so here (not-picked here not-x) (λ still. bound next t (call-kept call s k) x still))
-        refl)
+    let parts : (touches x call ≡ false) × (forbids (task s x .«cpu_affinity») (named call) ≡ false) = or-false (touches x call) _ unbroken in
+    let here : Turn x s o t = turn s k x ready call (parts .0) (parts .1) in
+    let picks-so : SchedulePicks e = schedule-picks s k x ready call (parts .0) (parts .1) in
+    split (λ (b : Bool). picks x e ≡ b → Holds (e ∷ cond b [] (stretchOf x t next))) (picks x e)
+    (λ _ own. record { schedules = (picks-so, tt); bands = (here .bands, tt); in-order = rw (others-own band x o [] own) (Sublistᴰ·nil-sublist (ahead s x)) })
+    (λ _ not-x. waits-on x s t e (stretchOf x t next) ready picks-so here (not-picked here not-x) (λ still. bound next t (call-kept call s k) x still))
+    refl)
     refl
 
 -- ---- demand 3

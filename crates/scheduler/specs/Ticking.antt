@@ -61,7 +61,7 @@ abbrev pub tickHolder : SlotOption → ℕ → ℕ → State → Chosen
 tickHolder slot.None core elapsed s = ruleP core s
 tickHolder (slot.Some h) core elapsed s =
     cond (isState (task s (h .0) .state) Blocked) (ruleP core (cleared core s)) (
-        cond (sliceOver (h .0) elapsed core s) (ruleP core (requeued (h .0) s)) (keepsOn h elapsed s))
+    cond (sliceOver (h .0) elapsed core s) (ruleP core (requeued (h .0) s)) (keepsOn h elapsed s))
 
 -- "Tick on core c, in order: c of 64 or more answers none, nothing changed."
 unfoldable pub ticked : ℕ → ℕ → State → Chosen
@@ -98,7 +98,7 @@ abbrev pub yieldHolder : SlotOption → ℕ → State → Outcome
 yieldHolder slot.None core s = answerPlan slot.None (ruleP core s)
 yieldHolder (slot.Some h) core s =
     cond (isState (task s (h .0) .state) Running) (
-        andThen (enqueue (h .0) s) (λ t. answerPlan (slot.Some h) (ruleP core (cleared core t))))
+    andThen (enqueue (h .0) s) (λ t. answerPlan (slot.Some h) (ruleP core (cleared core t))))
     (refused NoSuchTask s)
 
 -- 08 yield: 3 where "core 64 or above"

@@ -43,7 +43,7 @@ abbrev pub tickReach : SlotOption → ℕ → ℕ → State → Reach
 tickReach slot.None core elapsed s = reaches s core
 tickReach (slot.Some h) core elapsed s =
     cond (isState (task s (h .0) .state) Blocked) (reaches (cleared core s) core) (
-        cond (sliceOver (h .0) elapsed core s) (reaches (outOfSlice (h .0) s) core) unreached)
+    cond (sliceOver (h .0) elapsed core s) (reaches (outOfSlice (h .0) s) core) unreached)
 
 -- "a holder that is Running is enqueued and cleared; then P"
 abbrev pub yieldReach : SlotOption → ℕ → State → Reach

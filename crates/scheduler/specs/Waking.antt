@@ -57,8 +57,8 @@ inUse s slot = task s slot .«in_use»
 unfoldable pub block : ℕ → State → Outcome
 block slot s =
     cond (inUse s slot) (
-        cond (isState (task s slot .state) Blocked) (refused AlreadyBlocked s) (
-            done value.Nothing (withTask (outOfQueues slot s) slot (blocked (task s slot)))))
+    cond (isState (task s slot .state) Blocked) (refused AlreadyBlocked s) (
+    done value.Nothing (withTask (outOfQueues slot s) slot (blocked (task s slot)))))
     (refused NoSuchTask s)
 
 -- "goes to the tail of its band and becomes Ready; holders stay"
@@ -69,8 +69,8 @@ enqueued slot s = withTask (withQueue s (task s slot .qos) (pushed slot (queue s
 unfoldable pub enqueue : ℕ → State → Outcome
 enqueue slot s =
     cond (inUse s slot) (
-        cond (isState (task s slot .state) Ready) (refused AlreadyReady s) (
-            cond (full (queue s (task s slot .qos))) (refused QueueFull s) (done value.Nothing (enqueued slot s))))
+    cond (isState (task s slot .state) Ready) (refused AlreadyReady s) (
+    cond (full (queue s (task s slot .qos))) (refused QueueFull s) (done value.Nothing (enqueued slot s))))
     (refused NoSuchTask s)
 
 -- "some core holds it": the lowest such core; the number of cores where there is none
@@ -81,7 +81,7 @@ coreHolding s slot = firstPlace (λ (h : ℕ). eqb h slot) (s .holders)
 unfoldable pub wake : ℕ → State → Outcome
 wake slot s =
     cond (inUse s slot) (
-        cond (isState (task s slot .state) Blocked) (
-            cond (ltb (coreHolding s slot) 64) (done value.Nothing (withTask s slot (withState (task s slot) Running))) (enqueue slot s))
-        (refused NotBlocked s))
+    cond (isState (task s slot .state) Blocked) (
+    cond (ltb (coreHolding s slot) 64) (done value.Nothing (withTask s slot (withState (task s slot) Running))) (enqueue slot s))
+    (refused NotBlocked s))
     (refused NoSuchTask s)

@@ -69,9 +69,6 @@ pub struct ContextSwitchPlan {
 }
 
 pub enum ContextSwitchTarget {
-    Task {
-        task_idx: Slot,
-        cr3: u64,
-    },
+    Task { task_idx: Slot, cr3: u64 },
     Idle,
 }

@@ -1,0 +1,52 @@
+-- One stretch of demand 3, computed. Slots 0, 1 and 2 of band 0 wait in that order, and slot 3 of band 2; X is slot 2, so p is 2. Other cores
+-- pick 0 and 1 before X; a create, an enqueue, a refused wake and a query come between them; then X is picked, and what follows is no longer
+-- in the stretch. Assumes nothing.
+use mathlib.Core.Path.{_≡_, refl}
+use mathlib.Core.List.{List, [], _∷_, map}
+use Prim.Native.Nat.{ℕ}
+use Rattle.records.specs.declared.band.QoSClass.{QoSClass}
+use Rattle.records.specs.declared.band.QoSClass.the-variants.{UserInteractive, Background}
+use Rattle.records.specs.declared.ids.Slot.{Slot}
+use Rattle.queue.specs.Rules.{pushed, entryAt, takenAt}
+use Rattle.scheduler.specs.declared.call.Call.{Call}
+use Rattle.scheduler.specs.declared.call.Call.the-variants.{Create, Wake, Enqueue, Block, Schedule, Tick, SystemTicksUs}
+use Rattle.scheduler.specs.State.{State, newState, firstPlace}
+use Rattle.scheduler.specs.Picking.{choice, ruleP, schedule}
+use Rattle.scheduler.specs.Waking.{create, wake, enqueue, block}
+use Rattle.scheduler.specs.Ticking.{ticked, tick}
+use Rattle.scheduler.specs.Step.{run}
+use Rattle.scheduler.specs.Stretch.{Event, events, stretch, stretchOf, others, before, ahead}
+
+abbrev slot : ℕ → Slot
+slot n = record { 0 = n }
+
+abbrev make : QoSClass → Call
+make band = Create (record { 0 = 7 }) band 0 0 0
+
+-- X's point: the calls up to it, and the state there
+abbrev past : List Call
+past =
+    make UserInteractive ∷ make UserInteractive ∷ make UserInteractive ∷ make Background ∷
+    Enqueue (slot 0) ∷ Enqueue (slot 1) ∷ Enqueue (slot 2) ∷ Enqueue (slot 3) ∷ []
+
+abbrev here : State
+here = run past newState
+
+-- the calls of the stretch, and those behind it
+abbrev within : List Call
+within = Schedule 6 ∷ make UserInteractive ∷ Enqueue (slot 4) ∷ Wake (slot 3) ∷ Tick 9 100 ∷ SystemTicksUs ∷ Tick 64 1 ∷ Schedule 63 ∷ []
+
+abbrev next : List Call
+next = Schedule 6 ∷ make UserInteractive ∷ Enqueue (slot 4) ∷ Wake (slot 3) ∷ Tick 9 100 ∷ SystemTicksUs ∷ Tick 64 1 ∷ Schedule 63 ∷ Schedule 1 ∷ Block (slot 2) ∷ []
+
+pub two-before-X : ahead here 2 ≡ 0 ∷ 1 ∷ []
+unfolding firstPlace pushed create enqueue run before
+two-before-X = refl
+
+pub the-stretch : map (λ (e : Event). e .call) (stretchOf 2 here next) ≡ within
+unfolding firstPlace pushed entryAt takenAt choice ruleP schedule create wake enqueue block ticked tick run events stretch
+the-stretch = refl
+
+pub two-picked-before-X : others UserInteractive 2 (stretchOf 2 here next) ≡ 0 ∷ 1 ∷ []
+unfolding firstPlace pushed entryAt takenAt choice ruleP schedule create wake enqueue block ticked tick run events stretch others
+two-picked-before-X = refl
