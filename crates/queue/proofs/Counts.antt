@@ -4,7 +4,7 @@ use mathlib.Core.Bool.{Bool, cond}
 use mathlib.Core.List.{List, [], _∷_, _++_}
 use Prim.Native.Nat.{ℕ, suc, _+_, _≤_, _<_}
 use native.Mathlib.Omega.{arith}
-use borrow.Author.Tests.{eq-eqb, ne-eqb, eqb-true}
+use borrow.Author.Tests.{eq-eqb, ne-eqb, eqb-true, eqb-false}
 use lib.Dec.{eqb}
 use lib.ListN.{length, getD, take, drop}
 use lib.Seq.{split-at}
@@ -51,6 +51,12 @@ count-without-other slot other (e ∷ es) apart =
     split (λ (b : Bool). count other (cond b (without slot es) (e ∷ without slot es)) ≡ count other (e ∷ es)) (eqb e slot)
     (λ yes. rw (ne-eqb e other (λ same. apart (sym same ∙ eqb-true e slot yes))) (omega (arith, count-without-other slot other es apart)))
     (λ _. omega (arith, count-without-other slot other es apart))
+
+pub count-without-le : (slot other : ℕ) (es : List ℕ) → count other (without slot es) ≤ count other es
+count-without-le slot other es =
+    split (λ _. count other (without slot es) ≤ count other es) (eqb other slot)
+    (λ is. rw (eqb-true other slot is) (omega (arith, count-without-same slot es)))
+    (λ differs. omega (arith, count-without-other slot other es (eqb-false other slot differs)))
 
 pub length-without : (slot : ℕ) (es : List ℕ) → length (without slot es) + count slot es ≡ length es
 unfolding count without

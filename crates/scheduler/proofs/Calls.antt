@@ -1,21 +1,25 @@
 -- What holds of every call, and so of every list of calls: acceptance is kept, and the pick that an answer carries is the one that P made.
 -- Assumes nothing.
 use mathlib.Core.Path.{_≡_, refl, sym, ap, _∙_, subst}
+use mathlib.Core.Bool.{false}
 use mathlib.Core.List.{List, [], _∷_}
-use Prim.Native.Nat.{ℕ}
+use Prim.Native.Nat.{ℕ, _<_}
 use native.Mathlib.Omega.{arith}
-use Rattle.queue.specs.Rules.{count}
+use Rattle.records.specs.declared.band.QoSClass.{QoSClass}
+use Rattle.records.specs.declared.state.ThreadState.the-variants.{Ready}
+use Rattle.records.specs.State.{isState}
+use Rattle.queue.specs.Rules.{count, full}
 use Rattle.scheduler.specs.declared.call.Call.{Call}
 use Rattle.scheduler.specs.declared.answer.PickOption.{PickOption}
-use Rattle.scheduler.specs.State.{State, newState}
+use Rattle.scheduler.specs.State.{State, newState, task, queue}
 use Rattle.scheduler.specs.Accepted.{Accepted, every, everyBelow, accepts}
 use Rattle.scheduler.specs.Picking.{ruleP}
 use Rattle.scheduler.specs.Step.{step, run}
 use Rattle.scheduler.specs.Took.{Reach, reaches, reach, takenBy, Carries}
 use Rattle.scheduler.proofs.Accepts.{accepts-sound}
 use Rattle.scheduler.proofs.Course.{Course, quiet, reaching, course}
-use Rattle.scheduler.proofs.Kept.{Kept, kept-accepted, accepted-kept}
-use Rattle.scheduler.proofs.Picks.{P-kept}
+use Rattle.scheduler.proofs.Invariant.{Invariant, invariant-accepted, accepted-invariant, never-full}
+use Rattle.scheduler.proofs.Picks.{P-invariant}
 
 -- new is accepted: the test says so
 pub new-accepted : Accepted newState
@@ -24,24 +28,28 @@ new-accepted = accepts-sound newState refl
 
 -- ---- every call keeps acceptance
 
-kept-by : {call : Call} {s : State} {p : PickOption} {end : State} {r : Reach} → Course call s p end r → Kept end
-kept-by (quiet nobody-picked f) = f .kept
-kept-by (reaching t c low names f p-is end-is) = subst Kept (sym end-is) (P-kept t (f .kept) c)
+invariant-by : {call : Call} {s : State} {p : PickOption} {end : State} {r : Reach} → Course call s p end r → Invariant end
+invariant-by (quiet nobody-picked f) = f .invariant
+invariant-by (reaching t c low names f p-is end-is) = subst Invariant (sym end-is) (P-invariant t (f .invariant) c low)
 
-pub call-kept : (call : Call) (s : State) → Kept s → Kept (step call s .state)
-call-kept call s k = kept-by (course call s k)
+pub call-invariant : (call : Call) (s : State) → Invariant s → Invariant (step call s .state)
+call-invariant call s k = invariant-by (course call s k)
 
-pub run-kept : (calls : List Call) (s : State) → Kept s → Kept (run calls s)
+pub run-invariant : (calls : List Call) (s : State) → Invariant s → Invariant (run calls s)
 unfolding run
-run-kept [] s k = k
-run-kept (call ∷ calls) s k = run-kept calls (step call s .state) (call-kept call s k)
+run-invariant [] s k = k
+run-invariant (call ∷ calls) s k = run-invariant calls (step call s .state) (call-invariant call s k)
 
 -- "Every state reached from new or an accepted image is again accepted"
 pub call-accepted : (call : Call) (s : State) → Accepted s → Accepted (step call s .state)
-call-accepted call s a = kept-accepted (step call s .state) (call-kept call s (accepted-kept s a))
+call-accepted call s a = invariant-accepted (step call s .state) (call-invariant call s (accepted-invariant s a))
 
 pub run-accepted : (calls : List Call) (s : State) → Accepted s → Accepted (run calls s)
-run-accepted calls s a = kept-accepted (run calls s) (run-kept calls s (accepted-kept s a))
+run-accepted calls s a = invariant-accepted (run calls s) (run-invariant calls s (accepted-invariant s a))
+
+-- no slot to be queued finds 64 entries in a queue
+pub room-in-queue : (s : State) → Accepted s → (band : QoSClass) (slot : ℕ) → slot < 64 → isState (task s slot .state) Ready ≡ false → full (queue s band) ≡ false
+room-in-queue s a = never-full s (accepted-invariant s a)
 
 -- ---- the pick carried is P's
 
@@ -58,5 +66,5 @@ ended-by (reaching u d low names f p-is end-is) t c is =
 
 pub carries : (call : Call) (s : State) → Accepted s → Carries (reach call s) (step call s)
 carries call s a =
-    let followed = course call s (accepted-kept s a) in
+    let followed = course call s (accepted-invariant s a) in
     record { pick-is = carried-by followed; state-is = ended-by followed }

@@ -1,14 +1,16 @@
 -- Laws about the definitions of specs/.
+mod Says
 mod Lists
 mod Parts
-mod Kept
+mod Invariant
 mod Moves
-mod Picks
+pub mod Picks
+mod Effects
 mod Course
 pub mod Accepts
 pub mod Calls
-pub mod Waiting
 pub mod Refusals
+pub mod Waiting
 pub mod Pins
 pub mod Worked
 pub mod KCases

@@ -1,4 +1,4 @@
--- Laws about lists of entries: the first place that passes a test, the entries before one, and parts of a list in its order. The heart of the
+-- Laws about lists of entries: the first place that passes a test, distinct numbers, the entries before one, and parts of a list in its order. The heart of the
 -- waiting bound is `passed`: where an entry is taken that stands before x, what is then left before x stood before it. Assumes nothing.
 use mathlib.Core.Path.{_≡_, refl, sym, ap, _∙_, subst}
 use mathlib.Core.Bool.{Bool, true, false, cond, true≢false}
@@ -10,7 +10,7 @@ use lib.Dec.{eqb}
 use lib.ListN.{length, getD}
 use Rattle.records.proofs.Cases.{split}
 use Rattle.queue.specs.Rules.{count, without}
-use Rattle.queue.proofs.Counts.{count-append, count-one, count-other}
+use Rattle.queue.proofs.Counts.{count-append, count-one, count-other, count-entry, count-without-same, count-without-le, length-without}
 use Rattle.scheduler.specs.State.{firstPlace}
 use Rattle.scheduler.specs.Stretch.{before}
 
@@ -59,13 +59,12 @@ pub firstPlace-found : (test : ℕ → Bool) (l : List ℕ) (x : ℕ) → test x
 unfolding firstPlace count
 firstPlace-found test [] x px h = absurd (omega arith)
 firstPlace-found test (e ∷ l) x px h =
-    split (λ (b : Bool). test e ≡ b → cond b 0 (suc (firstPlace test l)) < suc (length l)) (test e)
-    (λ _ _. omega arith)
-    (λ _ fails.
+    split (λ (b : Bool). cond b 0 (suc (firstPlace test l)) < suc (length l)) (test e)
+    (λ _. omega arith)
+    (λ fails.
     let apart : e ≡ x → ⊥ = λ same. true≢false (sym px ∙ ap test (sym same) ∙ fails) in
     let behind : 1 ≤ count x l = let h2 : 1 ≤ cond false 1 0 + count x l = rw (ne-eqb e x apart) at h in omega arith in
     omega (arith, firstPlace-found test l x px behind))
-    refl
 
 -- ---- an entry that is counted has a place
 
@@ -76,6 +75,31 @@ count-place x (e ∷ l) =
     split (λ (b : Bool). 1 ≤ cond b 1 0 + count x l → (place : ℕ) × (place < suc (length l)) × (getD (e ∷ l) place 0 ≡ x)) (eqb e x)
     (λ is _. (zero, omega arith, eqb-true e x is))
     (λ _ h. let p : (place : ℕ) × (place < length l) × (getD l place 0 ≡ x) = count-place x l (omega arith) in (suc (p .0), omega (arith, p .1), p .2))
+
+-- ---- distinct numbers below n are at most n, and fewer where one is missing
+
+pub bounded : (n : ℕ) (es : List ℕ) → ((i : ℕ) → 1 ≤ count i es → i < n) → ((i : ℕ) → count i es ≤ 1) → length es ≤ n
+bounded zero [] below once = omega arith
+bounded zero (e ∷ es) below once = absurd (omega (arith, below e (count-entry 0 (e ∷ es) (omega arith))))
+bounded (suc n) es below once =
+    let last-gone : (i : ℕ) → 1 ≤ count i (without n es) → i ≡ n → ⊥ = λ i h same. let none : count i (without n es) ≡ 0 = ap (λ (k : ℕ). count k (without n es)) same ∙ count-without-same n es in omega arith in
+    let lower : (i : ℕ) → 1 ≤ count i (without n es) → i < n = λ i h. let low : i < suc n = below i (omega (arith, count-without-le n i es)) in omega (arith, last-gone i h) in
+    let once-still : (i : ℕ) → count i (without n es) ≤ 1 = λ i. omega (arith, count-without-le n i es, once i) in
+    omega (arith, length-without n es, once n, bounded n (without n es) lower once-still)
+
+pub room : (n : ℕ) (es : List ℕ) (j : ℕ) → ((i : ℕ) → 1 ≤ count i es → i < n) → ((i : ℕ) → count i es ≤ 1) → j < n → count j es ≡ 0 → length es < n
+room n es j below once low missing =
+    let joined : (i : ℕ) → count i (j ∷ es) ≡ count i (j ∷ []) + count i es = λ i. count-append i (j ∷ []) es in
+    let below-all : (i : ℕ) → 1 ≤ count i (j ∷ es) → i < n = λ i h.
+    split (λ _. i < n) (eqb i j)
+    (λ is. omega (arith, eqb-true i j is))
+    (λ other. below i (omega (arith, joined i, count-other i j (eqb-false i j other)))) in
+    let once-all : (i : ℕ) → count i (j ∷ es) ≤ 1 = λ i.
+    split (λ _. count i (j ∷ es) ≤ 1) (eqb i j)
+    (λ is. rw (eqb-true i j is) (omega (arith, joined j, count-one j)))
+    (λ other. omega (arith, joined i, count-other i j (eqb-false i j other), once i)) in
+    let all : length (j ∷ es) ≤ n = bounded n (j ∷ es) below-all once-all in
+    omega arith
 
 -- ---- parts of a list in its order
 

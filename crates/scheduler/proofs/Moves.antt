@@ -24,7 +24,7 @@ use Rattle.scheduler.specs.State.{State, Queues, nobody, task, ofBand, w
 use Rattle.scheduler.specs.Accepted.{ReadyOf, MayHold}
 use Rattle.scheduler.specs.Waking.{enqueued, outOfQueues, released, outOfHolders}
 use Rattle.scheduler.specs.Stretch.{before}
-use Rattle.scheduler.proofs.Kept.{Good, Kept, due, due-ready, due-not, never-full, used-in-table}
+use Rattle.scheduler.proofs.Invariant.{Good, Invariant, due, due-ready, due-not, due-idle, not-both, never-full, used-in-table}
 use Rattle.scheduler.proofs.Lists.{before-append, before-without}
 use Rattle.scheduler.proofs.Parts.{each-set, each-queue, ofBand-each}
 
@@ -36,28 +36,28 @@ pub record Alike (r t : TaskControlBlock) : Type 0 where
   pub band : r .qos ≡ t .qos
   pub mask : r .«cpu_affinity» ≡ t .«cpu_affinity»
 
-pub record Calm (x : ℕ) (s t : State) : Type 0 where
+pub record Undisturbed (x : ℕ) (s t : State) : Type 0 where
   pub alike : Alike (task t x) (task s x)
   pub order : Sublistᴰ (before x (queue t (task s x .qos))) (before x (queue s (task s x .qos)))
 
-pub record Fine (safe : ℕ → Type 0) (s t : State) : Type 0 where
-  pub kept : Kept t
-  pub calm : (x : ℕ) → safe x → task s x .state ≡ Ready → Calm x s t
+pub record Harmless (safe : ℕ → Type 0) (s t : State) : Type 0 where
+  pub invariant : Invariant t
+  pub undisturbed : (x : ℕ) → safe x → task s x .state ≡ Ready → Undisturbed x s t
 
 -- who waits does not see holders and microseconds
-unseen : (x : ℕ) (s : State) (hs : List ℕ) (n : ℕ) → Calm x s (withMicros (withHolders s hs) n)
+unseen : (x : ℕ) (s : State) (hs : List ℕ) (n : ℕ) → Undisturbed x s (withMicros (withHolders s hs) n)
 unseen x s hs n = record { alike = record { state = refl; band = refl; mask = refl }; order = Sublistᴰ·refl (before x (queue s (task s x .qos))) }
 
-pub stay : {safe : ℕ → Type 0} (s : State) → Kept s → Fine safe s s
-stay s k = record { kept = k; calm = λ x _ _. unseen x s (s .holders) (s .micros) }
+pub stay : {safe : ℕ → Type 0} (s : State) → Invariant s → Harmless safe s s
+stay s k = record { invariant = k; undisturbed = λ x _ _. unseen x s (s .holders) (s .micros) }
 
 -- one change after another
-pub then : {safe : ℕ → Type 0} (s t u : State) → Fine safe s t → Fine safe t u → Fine safe s u
+pub then : {safe : ℕ → Type 0} (s t u : State) → Harmless safe s t → Harmless safe t u → Harmless safe s u
 then s t u f g = record {
-  kept = g .kept;
-  calm = λ x sx ready.
-      let c : Calm x s t = f .calm x sx ready in
-      let d : Calm x t u = g .calm x sx (c .alike .state ∙ ready) in
+  invariant = g .invariant;
+  undisturbed = λ x sx ready.
+      let c : Undisturbed x s t = f .undisturbed x sx ready in
+      let d : Undisturbed x t u = g .undisturbed x sx (c .alike .state ∙ ready) in
       record {
         alike = record { state = d .alike .state ∙ c .alike .state; band = d .alike .band ∙ c .alike .band; mask = d .alike .mask ∙ c .alike .mask };
         order = Sublistᴰ·trans (subst (λ (b : QoSClass). Sublistᴰ (before x (queue u b)) (before x (queue t b))) (c .alike .band) (d .order)) (c .order);
@@ -80,21 +80,21 @@ pub record Change (safe : ℕ → Type 0) (s : State) (i : ℕ) (r : TaskControl
   pub order : (x : ℕ) → safe x → task s x .state ≡ Ready → (b : QoSClass) → 1 ≤ count x (queue s b) → Sublistᴰ (before x (ofBand q b)) (before x (queue s b))
 
 -- a Ready slot stands in its band's queue
-pub in-queue : (s : State) → Kept s → (x : ℕ) → task s x .state ≡ Ready → 1 ≤ count x (queue s (task s x .qos))
+pub in-queue : (s : State) → Invariant s → (x : ℕ) → task s x .state ≡ Ready → 1 ≤ count x (queue s (task s x .qos))
 in-queue s k x ready = omega (arith, k .queued (task s x .qos) x, due-ready (task s x .qos) (task s x) (record { ready = ready; of-band = refl }))
 
-pub move : {safe : ℕ → Type 0} (s : State) → Kept s → (i : ℕ) (r : TaskControlBlock) (q : Queues) → Change safe s i r q → Fine safe s (withTask (withQueues s q) i r)
+pub move : {safe : ℕ → Type 0} (s : State) → Invariant s → (i : ℕ) (r : TaskControlBlock) (q : Queues) → Change safe s i r q → Harmless safe s (withTask (withQueues s q) i r)
 move s k i r q c =
     let low : i < length (s .tasks) = omega (arith, k .slots, c .low) in
     record {
-      kept = record {
+      invariant = record {
         slots = length-set (s .tasks) i r ∙ k .slots;
         cores = k .cores;
         good = each-set (λ (j : ℕ) (t : TaskControlBlock). Good t) (s .tasks) i r emptyRecord low (c .good) (λ j _. k .good j);
         queued = λ b. each-set (λ (j : ℕ) (t : TaskControlBlock). count j (ofBand q b) ≡ due b t) (s .tasks) i r emptyRecord low (c .own b) (λ j other. c .rest b j other ∙ k .queued b j);
         held = λ core. held-still low core (k .held core);
       };
-      calm = λ x sx ready. record {
+      undisturbed = λ x sx ready. record {
         alike = each-set (λ (j : ℕ) (t : TaskControlBlock). j ≡ x → Alike t (task s x)) (s .tasks) i r emptyRecord low
             (λ same. subst (λ (j : ℕ). Alike r (task s j)) same (c .alike x sx ready (sym same)))
             (λ j _ same. subst (λ (j2 : ℕ). Alike (task s j) (task s j2)) same (record { state = refl; band = refl; mask = refl })) x refl;
@@ -109,24 +109,16 @@ move s k i r q c =
         (c .may core) (λ j _ same. subst (λ (j2 : ℕ). MayHold (task s j2)) same m) (holder s core) refl)
 
 -- whom a core holds may be held
-pub holder-may : (s : State) → Kept s → (core i : ℕ) → i < 64 → holder s core ≡ i → MayHold (task s i)
+pub holder-may : (s : State) → Invariant s → (core i : ℕ) → i < 64 → holder s core ≡ i → MayHold (task s i)
 holder-may s k core i low same = held-by (k .held core)
   where
     held-by : (holder s core ≡ nobody) ⊎ MayHold (task s (holder s core)) → MayHold (task s i)
     held-by (inl none) = absurd (omega arith)
     held-by (inr m) = subst (λ (j : ℕ). MayHold (task s j)) same m
 
--- Ready and not Ready are two
-pub not-both : (st : ThreadState) → st ≡ Ready → isState st Ready ≡ false → ⊥
-not-both st is other = true≢false (ap (λ (q : ThreadState). isState q Ready) (sym is) ∙ other)
-
--- a record that is not Ready asks for no place
-pub due-idle : (b : QoSClass) (t : TaskControlBlock) → isState (t .state) Ready ≡ false → due b t ≡ 0
-due-idle b t other = due-not b t (λ r. not-both (t .state) (r .ready) other)
-
-module _ {safe : ℕ → Type 0} (s : State) (k : Kept s) where
+module _ {safe : ℕ → Type 0} (s : State) (k : Invariant s) where
   -- a record alone, which asks of the queues what the old one asked
-  pub put : (i : ℕ) (r : TaskControlBlock) → i < 64 → Good r → ((b : QoSClass) → due b r ≡ due b (task s i)) → (MayHold (task s i) → MayHold r) → ((x : ℕ) → safe x → task s x .state ≡ Ready → x ≡ i → Alike r (task s i)) → Fine safe s (withTask s i r)
+  pub put : (i : ℕ) (r : TaskControlBlock) → i < 64 → Good r → ((b : QoSClass) → due b r ≡ due b (task s i)) → (MayHold (task s i) → MayHold r) → ((x : ℕ) → safe x → task s x .state ≡ Ready → x ≡ i → Alike r (task s i)) → Harmless safe s (withTask s i r)
   put i r low good dues may alike = move s k i r (s .queues) (record {
     low = low;
     good = good;
@@ -138,7 +130,7 @@ module _ {safe : ℕ → Type 0} (s : State) (k : Kept s) where
   })
 
   -- a slot that was not waiting goes to the tail of its band
-  pub to-tail : (i : ℕ) → task s i .«in_use» ≡ true → isState (task s i .state) Ready ≡ false → Fine safe s (enqueued i s)
+  pub to-tail : (i : ℕ) → task s i .«in_use» ≡ true → isState (task s i .state) Ready ≡ false → Harmless safe s (enqueued i s)
   to-tail i used idle =
       let t : TaskControlBlock = task s i in
       let es : List ℕ = queue s (t .qos) in
@@ -165,7 +157,7 @@ module _ {safe : ℕ → Type 0} (s : State) (k : Kept s) where
       })
 
   -- a slot leaves the queues with a record that asks for no place
-  pub out : (i : ℕ) (r : TaskControlBlock) → i < 64 → Good r → isState (r .state) Ready ≡ false → ((core : ℕ) → holder s core ≡ i → MayHold r) → ((x : ℕ) → safe x → x ≡ i → ⊥) → Fine safe s (withTask (outOfQueues i s) i r)
+  pub out : (i : ℕ) (r : TaskControlBlock) → i < 64 → Good r → isState (r .state) Ready ≡ false → ((core : ℕ) → holder s core ≡ i → MayHold r) → ((x : ℕ) → safe x → x ≡ i → ⊥) → Harmless safe s (withTask (outOfQueues i s) i r)
   out i r low good idle may apart = move s k i r (eachQueue (without i) (s .queues)) (record {
     low = low;
     good = good;
@@ -178,20 +170,20 @@ module _ {safe : ℕ → Type 0} (s : State) (k : Kept s) where
 
   -- ---- holders and microseconds
 
-  pub holders : (hs : List ℕ) → length hs ≡ 64 → ((core : ℕ) → (getD hs core nobody ≡ nobody) ⊎ MayHold (task s (getD hs core nobody))) → Fine safe s (withHolders s hs)
+  pub holders : (hs : List ℕ) → length hs ≡ 64 → ((core : ℕ) → (getD hs core nobody ≡ nobody) ⊎ MayHold (task s (getD hs core nobody))) → Harmless safe s (withHolders s hs)
   holders hs whole held = record {
-    kept = record { slots = k .slots; cores = whole; good = k .good; queued = k .queued; held = held };
-    calm = λ x _ _. unseen x s hs (s .micros);
+    invariant = record { slots = k .slots; cores = whole; good = k .good; queued = k .queued; held = held };
+    undisturbed = λ x _ _. unseen x s hs (s .micros);
   }
 
   -- one core's holder becomes none, or one that may be held
-  pub hold : (core h : ℕ) → core < 64 → (h ≡ nobody) ⊎ MayHold (task s h) → Fine safe s (withHolder s core h)
+  pub hold : (core h : ℕ) → core < 64 → (h ≡ nobody) ⊎ MayHold (task s h) → Harmless safe s (withHolder s core h)
   hold core h low may =
       holders (set (s .holders) core h) (length-set (s .holders) core h ∙ k .cores)
       (each-set (λ (c g : ℕ). (g ≡ nobody) ⊎ MayHold (task s g)) (s .holders) core h nobody (omega (arith, k .cores)) may (λ c _. k .held c))
 
-  pub time : (n : ℕ) → Fine safe s (withMicros s n)
+  pub time : (n : ℕ) → Harmless safe s (withMicros s n)
   time n = record {
-    kept = record { slots = k .slots; cores = k .cores; good = k .good; queued = k .queued; held = k .held };
-    calm = λ x _ _. unseen x s (s .holders) n;
+    invariant = record { slots = k .slots; cores = k .cores; good = k .good; queued = k .queued; held = k .held };
+    undisturbed = λ x _ _. unseen x s (s .holders) n;
   }

@@ -6,8 +6,7 @@ use mathlib.Core.List.{List, [], _∷_, _++_, Sublistᴰ, Sublistᴰ·cons, Subl
 use mathlib.Core.Logic.{_⊎_, inl, inr}
 use Prim.Native.Nat.{ℕ, _+_, _≤_, _<_}
 use native.Mathlib.Omega.{arith}
-use borrow.Author.Tests.{ltb-true, ltb-false, lt-ltb, le-ltb, eqb-true, eqb-false, eq-eqb, ne-eqb}
-use lib.Dec.{ltb, eqb}
+use borrow.Author.Tests.{le-leb, lt-leb}
 use lib.ListN.{length, getD}
 use lib.Seq.{getD-set-same, getD-append-seam}
 use Rattle.records.specs.declared.band.QoSClass.{QoSClass}
@@ -33,9 +32,9 @@ use Rattle.scheduler.specs.Accepted.{ReadyOf, MayHold}
 use Rattle.scheduler.specs.Outcome.{Chosen}
 use Rattle.scheduler.specs.Picking.{permitted, placeFor, firstPermitted, foundIn, choice, afterPick, noChoice, ruleP}
 use Rattle.scheduler.specs.Stretch.{before}
-use Rattle.scheduler.proofs.Kept.{Good, Kept, due, due-small, due-not, entry-ready, ready-in-table}
+use Rattle.scheduler.proofs.Invariant.{Good, Invariant, due, due-small, due-not, entry-ready, ready-in-table}
 use Rattle.scheduler.proofs.Lists.{Cut, cut, firstPlace-found, passed}
-use Rattle.scheduler.proofs.Moves.{Alike, Calm, Fine, stay, then, move, hold, in-queue, due-idle}
+use Rattle.scheduler.proofs.Moves.{Harmless, then, move, hold}
 use Rattle.scheduler.proofs.Parts.{each-queue}
 
 -- ---- whom P chooses
@@ -84,7 +83,7 @@ not-overlooked s core b x may there missed =
 
 -- ---- what a pick leaves
 
-module _ (s : State) (k : Kept s) (core : ℕ) (p : Pick) (is : firstPermitted s core (p .band) ≡ slot.Some (p .slot)) where
+module _ (s : State) (k : Invariant s) (core : ℕ) (p : Pick) (is : firstPermitted s core (p .band) ≡ slot.Some (p .slot)) where
   abbrev i : ℕ
   i = p .slot .0
 
@@ -128,8 +127,8 @@ module _ (s : State) (k : Kept s) (core : ℕ) (p : Pick) (is : firstPermitted s
       subst (λ (l : List ℕ). Sublistᴰ (i ∷ before x rest) (before x l)) (sym (c .whole))
       (subst (λ (l : List ℕ). Sublistᴰ l (before x (f ++ c .entry ∷ t))) (λ j. entry-is j ∷ before x (sym rest-is j)) around)
 
-  pub pick-fine : Fine (λ (x : ℕ). (x ≡ i → ⊥) × (permitted s core x ≡ true)) s (withTask (withQueue s (p .band) rest) i (picked (task s i)))
-  pick-fine = move s k i (picked (task s i)) (withBand (s .queues) (p .band) rest) (record {
+  pub pick-harmless : Harmless (λ (x : ℕ). (x ≡ i → ⊥) × (permitted s core x ≡ true)) s (withTask (withQueue s (p .band) rest) i (picked (task s i)))
+  pick-harmless = move s k i (picked (task s i)) (withBand (s .queues) (p .band) rest) (record {
     low = low;
     good = record { in-use = used; mask = k .good i .mask; budget = inr refl; consumed = slice-positive (task s i .qos) };
     own = each-queue (λ (b : QoSClass) (l : List ℕ). count i l ≡ 0) (s .queues) (p .band) rest
@@ -148,35 +147,37 @@ module _ (s : State) (k : Kept s) (core : ℕ) (p : Pick) (is : firstPermitted s
   })
 
   -- the pick becomes the core's holder
-  pub pick-held : core < 64 → Fine (λ (x : ℕ). (x ≡ i → ⊥) × (permitted s core x ≡ true)) s (afterPick s core (pick.Some p) .state)
+  pub pick-held : core < 64 → Harmless (λ (x : ℕ). (x ≡ i → ⊥) × (permitted s core x ≡ true)) s (afterPick s core (pick.Some p) .state)
   pick-held below =
       let t : State = withTask (withQueue s (p .band) rest) i (picked (task s i)) in
       let stored : task t i ≡ picked (task s i) = getD-set-same (s .tasks) i (picked (task s i)) emptyRecord (omega (arith, k .slots, low)) in
-      then s t (afterPick s core (pick.Some p) .state) pick-fine
-      (hold t (pick-fine .kept) core i below (inr (subst MayHold (sym stored) (record { used = used; armed = refl }))))
+      then s t (afterPick s core (pick.Some p) .state) pick-harmless
+      (hold t (pick-harmless .invariant) core i below (inr (subst MayHold (sym stored) (record { used = used; armed = refl }))))
 
 -- ---- P
 
 -- "or for c of 64 and above (no change)"
 pub P-past : (s : State) (core : ℕ) → 64 ≤ core → ruleP core s ≡ noChoice s
 unfolding ruleP
-P-past s core past = rw (le-ltb core 64 past)
+P-past s core past = rw (le-leb 64 core past)
+
+pub P-below : (s : State) (core : ℕ) → core < 64 → ruleP core s ≡ afterPick s core (choice s core bandOrder)
+unfolding ruleP
+P-below s core low = rw (lt-leb 64 core low)
 
 -- P leaves an accepted state accepted
-pub P-kept : (s : State) → Kept s → (core : ℕ) → Kept (ruleP core s .state)
-unfolding ruleP
-P-kept s k core = by-if (λ (c : Chosen). Kept (c .state)) (ltb core 64) (λ below. after (ltb-true core 64 below) (choice-is s core)) (λ _. k)
+pub P-invariant : (s : State) → Invariant s → (core : ℕ) → core < 64 → Invariant (ruleP core s .state)
+P-invariant s k core low = subst (λ (c : Chosen). Invariant (c .state)) (sym (P-below s core low)) (after (choice-is s core))
   where
-    after : core < 64 → {o : PickOption} → Choice s core o → Kept (afterPick s core o .state)
-    after low (taken p is earlier) = pick-held s k core p is low .kept
-    after low (none empty) = hold {safe = λ (x : ℕ). ⊥} s k core nobody low (inl refl) .kept
+    after : {o : PickOption} → Choice s core o → Invariant (afterPick s core o .state)
+    after (taken p is earlier) = pick-held s k core p is low .invariant
+    after (none empty) = hold {safe = λ (x : ℕ). ⊥} s k core nobody low (inl refl) .invariant
 
 -- "None is answered only then": no queue has a permitted entry
 pub P-none : (s : State) (core : ℕ) → core < 64 → ruleP core s .pick ≡ pick.None → (b : QoSClass) (x : ℕ) → 1 ≤ count x (queue s b) → permitted s core x ≡ false
-unfolding ruleP
-P-none s core low = rw (lt-ltb core 64 low) (after (choice-is s core))
+P-none s core low e = after (choice-is s core) (ap (λ (c : Chosen). c .pick) (sym (P-below s core low)) ∙ e)
   where
     after : {o : PickOption} → Choice s core o → afterPick s core o .pick ≡ pick.None → (b : QoSClass) (x : ℕ) → 1 ≤ count x (queue s b) → permitted s core x ≡ false
     after (taken p is earlier) e b x there = let no : _≡_ {A = ℕ} 0 1 = cc in absurd (omega arith)
     after (none empty) e b x there =
-        split (λ (t : Bool). permitted s core x ≡ t → t ≡ false) (permitted s core x) (λ _ may. absurd (not-overlooked s core b x may there (empty b))) (λ _ _. refl) refl
+        split (λ (t : Bool). t ≡ false) (permitted s core x) (λ may. absurd (not-overlooked s core b x may there (empty b))) (λ _. refl)

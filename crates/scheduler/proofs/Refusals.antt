@@ -1,10 +1,10 @@
 -- How calls end: done, or refused, and a refusal is the whole outcome: no pick, no value, the state as it was. In an accepted state no call is
 -- refused because 64 entries stand in a queue. Assumes nothing.
 use mathlib.Core.Path.{_≡_, refl, sym, ap, _∙_}
-use mathlib.Core.Bool.{true, false, true≢false}
+use mathlib.Core.Bool.{true, false, not, true≢false}
 use Prim.Native.Nat.{ℕ}
 use native.Mathlib.Omega.{arith}
-use lib.Dec.{ltb}
+use lib.Dec.{ltb, leb}
 use Rattle.records.specs.declared.error.SchedError.{SchedError}
 use Rattle.records.specs.declared.error.SchedError.the-variants.{TableFull, QueueFull, NoSuchTask, AlreadyReady, AlreadyBlocked, NotBlocked}
 use Rattle.records.specs.declared.ids.Slot.{Slot}
@@ -24,10 +24,11 @@ use Rattle.scheduler.specs.State.{State, task, queue, holderOf}
 use Rattle.scheduler.specs.Accepted.{Accepted}
 use Rattle.scheduler.specs.Outcome.{Outcome, refused, goOn, andThen}
 use Rattle.scheduler.specs.Picking.{schedule}
-use Rattle.scheduler.specs.Waking.{freeSlot, create, affinity, terminate, inUse, block, enqueue, coreHolding, wake}
+use Rattle.scheduler.specs.Waking.{freeSlot, create, affinity, terminate, missing, block, enqueue, coreHolding, wake}
 use Rattle.scheduler.specs.Ticking.{tick, yieldHolder, yield, handoffIn, handoffHolder, handoff, planned}
 use Rattle.scheduler.specs.Step.{step}
-use Rattle.scheduler.proofs.Kept.{Kept, accepted-kept, never-full, used-in-table}
+use Rattle.scheduler.proofs.Calls.{room-in-queue}
+use Rattle.scheduler.proofs.Effects.{present}
 
 -- done, or refused with a number that may be
 pub data Ending (may : SchedError → Type 0) (s : State) (o : Outcome) : Type 0 where
@@ -37,7 +38,7 @@ pub data Ending (may : SchedError → Type 0) (s : State) (o : Outcome) : Type 0
 -- every number but 2 may be; 2 may be where 64 entries stand in the queue of a slot to be queued
 pub record May (may : SchedError → Type 0) (s : State) : Type 0 where
   pub other : (e : SchedError) → (errorCode e ≡ 2 → ⊥) → may e
-  pub two : (i : ℕ) → task s i .«in_use» ≡ true → isState (task s i .state) Ready ≡ false → full (queue s (task s i .qos)) ≡ true → may QueueFull
+  pub two : (i : ℕ) → missing s i ≡ false → isState (task s i .state) Ready ≡ false → full (queue s (task s i .qos)) ≡ true → may QueueFull
 
 module _ (may : SchedError → Type 0) (s : State) (m : May may s) where
   refuse : (e : SchedError) → (errorCode e ≡ 2 → ⊥) → Ending may s (refused e s)
@@ -49,27 +50,23 @@ module _ (may : SchedError → Type 0) (s : State) (m : May may s) where
   enqueue-ends : (i : ℕ) → Ending may s (enqueue i s)
   unfolding enqueue
   enqueue-ends i =
-      by-if (Ending may s) (inUse s i)
-      (λ used. by-if (Ending may s) (isState (task s i .state) Ready)
-      (λ _. refuse AlreadyReady (λ n. omega arith))
-      (λ idle. by-if (Ending may s) (full (queue s (task s i .qos))) (λ none-left. refuses QueueFull (m .two i used idle none-left) refl) (λ _. did refl)))
-      (λ _. no-task)
+      by-if (Ending may s) (missing s i) (λ _. no-task) (λ here.
+      by-if (Ending may s) (isState (task s i .state) Ready) (λ _. refuse AlreadyReady (λ n. omega arith)) (λ idle.
+      by-if (Ending may s) (full (queue s (task s i .qos))) (λ none-left. refuses QueueFull (m .two i here idle none-left) refl) (λ _.
+      did refl)))
 
   wake-ends : (i : ℕ) → Ending may s (wake i s)
   unfolding wake
   wake-ends i =
-      by-if (Ending may s) (inUse s i)
-      (λ _. by-if (Ending may s) (isState (task s i .state) Blocked)
-      (λ _. by-if (Ending may s) (ltb (coreHolding s i) 64) (λ _. did refl) (λ _. enqueue-ends i))
-      (λ _. refuse NotBlocked (λ n. omega arith)))
-      (λ _. no-task)
+      by-if (Ending may s) (missing s i) (λ _. no-task) (λ _.
+      by-if (Ending may s) (not (isState (task s i .state) Blocked)) (λ _. refuse NotBlocked (λ n. omega arith)) (λ _.
+      by-if (Ending may s) (ltb (coreHolding s i) 64) (λ _. did refl) (λ _. enqueue-ends i)))
 
   block-ends : (i : ℕ) → Ending may s (block i s)
   unfolding block
   block-ends i =
-      by-if (Ending may s) (inUse s i)
-      (λ _. by-if (Ending may s) (isState (task s i .state) Blocked) (λ _. refuse AlreadyBlocked (λ n. omega arith)) (λ _. did refl))
-      (λ _. no-task)
+      by-if (Ending may s) (missing s i) (λ _. no-task) (λ _.
+      by-if (Ending may s) (isState (task s i .state) Blocked) (λ _. refuse AlreadyBlocked (λ n. omega arith)) (λ _. did refl))
 
   -- a call that goes on after an outcome is refused as that was, or ends as what follows
   then-ends : (o : Outcome) (next : State → Outcome) → Ending may s o → ((t : State) → next t .answer .status ≡ Done) → Ending may s (andThen o next)
@@ -79,7 +76,7 @@ module _ (may : SchedError → Type 0) (s : State) (m : May may s) where
   yield-ends : (c : ℕ) (h : SlotOption) → Ending may s (yieldHolder h c s)
   yield-ends c slot.None = did refl
   yield-ends c (slot.Some h) =
-      by-if (Ending may s) (isState (task s (h .0) .state) Running) (λ _. then-ends (enqueue (h .0) s) _ (enqueue-ends (h .0)) (λ t. refl)) (λ _. no-task)
+      by-if (Ending may s) (not (isState (task s (h .0) .state) Running)) (λ _. no-task) (λ _. then-ends (enqueue (h .0) s) _ (enqueue-ends (h .0)) (λ t. refl))
 
   handoff-ends : (c : ℕ) (h : SlotOption) → Ending may s (handoffHolder h c s)
   handoff-ends c slot.None = no-task
@@ -93,17 +90,17 @@ module _ (may : SchedError → Type 0) (s : State) (m : May may s) where
 
   pub ending : (call : Call) → Ending may s (step call s)
   unfolding create affinity terminate schedule tick yield handoff planned
-  ending (Create tid band context cr3 rsp0) = by-if (Ending may s) (ltb (freeSlot s) 64) (λ _. did refl) (λ _. refuse TableFull (λ n. omega arith))
-  ending (Affinity i mask) = by-if (Ending may s) (ltb (i .0) 64) (λ _. did refl) (λ _. no-task)
-  ending (Terminate i) = by-if (Ending may s) (ltb (i .0) 64) (λ _. did refl) (λ _. no-task)
+  ending (Create tid band context cr3 rsp0) = by-if (Ending may s) (leb 64 (freeSlot s)) (λ _. refuse TableFull (λ n. omega arith)) (λ _. did refl)
+  ending (Affinity i mask) = by-if (Ending may s) (leb 64 (i .0)) (λ _. no-task) (λ _. did refl)
+  ending (Terminate i) = by-if (Ending may s) (leb 64 (i .0)) (λ _. no-task) (λ _. did refl)
   ending (Block i) = block-ends (i .0)
   ending (Wake i) = wake-ends (i .0)
   ending (Enqueue i) = enqueue-ends (i .0)
   ending (Schedule c) = did refl
   ending (Tick c elapsed) = did refl
-  ending (Yield c) = by-if (Ending may s) (ltb c 64) (λ _. yield-ends c (holderOf s c)) (λ _. no-task)
-  ending (Handoff c) = by-if (Ending may s) (ltb c 64) (λ _. handoff-ends c (holderOf s c)) (λ _. no-task)
-  ending (Plan c elapsed) = by-if (Ending may s) (ltb c 64) (λ _. did refl) (λ _. did refl)
+  ending (Yield c) = by-if (Ending may s) (leb 64 c) (λ _. no-task) (λ _. yield-ends c (holderOf s c))
+  ending (Handoff c) = by-if (Ending may s) (leb 64 c) (λ _. no-task) (λ _. handoff-ends c (holderOf s c))
+  ending (Plan c elapsed) = by-if (Ending may s) (leb 64 c) (λ _. did refl) (λ _. did refl)
   ending (CanRunOnCore i c) = did refl
   ending (TaskIndexForTid tid) = did refl
   ending (Task i) = did refl
@@ -126,10 +123,7 @@ refused-whole call s e r =
 -- number 2 is never answered
 pub never-2 : (call : Call) (s : State) → Accepted s → step call s .answer .status ≡ Refused QueueFull → ⊥
 never-2 call s a r =
-    let k : Kept s = accepted-kept s a in
     let NotTwo : SchedError → Type 0 = λ (f : SchedError). errorCode f ≡ 2 → ⊥ in
-    let room : May NotTwo s = record {
-      other = λ _ not-two. not-two;
-      two = λ i used idle none-left _. true≢false (sym none-left ∙ never-full s k (task s i .qos) i (used-in-table s (k .slots) i used) idle);
-    } in
-    refused-as NotTwo s (step call s) (ending NotTwo s room call) QueueFull r .0 refl
+    let room : (i : ℕ) → missing s i ≡ false → isState (task s i .state) Ready ≡ false → full (queue s (task s i .qos)) ≡ false = λ i here idle. room-in-queue s a (task s i .qos) i (present s i here .0) idle in
+    let never : May NotTwo s = record { other = λ _ not-two. not-two; two = λ i here idle none-left _. true≢false (sym none-left ∙ room i here idle) } in
+    refused-as NotTwo s (step call s) (ending NotTwo s never call) QueueFull r .0 refl

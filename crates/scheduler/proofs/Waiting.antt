@@ -14,7 +14,7 @@ use Rattle.records.specs.declared.state.ThreadState.the-variants.{Ready}
 use Rattle.records.specs.Band.{bandCode}
 use Rattle.records.specs.Mask.{permits}
 use Rattle.records.proofs.Bands.{bandCode-one}
-use Rattle.records.proofs.Cases.{split}
+use Rattle.records.proofs.Cases.{split, neither}
 use Rattle.queue.specs.Rules.{count, takenAt}
 use Rattle.queue.proofs.Counts.{count-append}
 use Rattle.scheduler.specs.declared.call.Call.{Call}
@@ -31,13 +31,13 @@ use Rattle.scheduler.specs.Step.{step, run}
 use Rattle.scheduler.specs.Took.{Reach}
 use Rattle.scheduler.specs.Stretch.{Event, events, named, touches, forbids, breaks, isPick, picks, stretch, stretchOf, othersIn, others, before, ahead}
 use Rattle.scheduler.specs.Demand3.{Each, SchedulePicks, NotBehind, Waiting, Point, Claim}
-use Rattle.scheduler.proofs.Calls.{new-accepted, call-kept, run-kept}
+use Rattle.scheduler.proofs.Calls.{new-accepted, call-invariant, run-invariant}
 use Rattle.scheduler.proofs.Course.{Untouched, Course, quiet, reaching, course}
-use Rattle.scheduler.proofs.Kept.{Kept, accepted-kept, entry-once}
+use Rattle.scheduler.proofs.Invariant.{Invariant, accepted-invariant, entry-once}
 use Rattle.scheduler.proofs.Lists.{sub-length, sub-count, before-cut}
-use Rattle.scheduler.proofs.Moves.{Alike, Calm, Fine, in-queue}
+use Rattle.scheduler.proofs.Moves.{Alike, Undisturbed, Harmless, in-queue}
 use Rattle.scheduler.proofs.Parts.{ofBand-with}
-use Rattle.scheduler.proofs.Picks.{Choice, taken, none, choice-is, not-overlooked, pick-order, pick-held}
+use Rattle.scheduler.proofs.Picks.{Choice, taken, none, choice-is, not-overlooked, pick-order, pick-held, P-below}
 
 -- ---- one call
 
@@ -53,11 +53,11 @@ record Turn (x : ℕ) (s : State) (o : PickOption) (t : State) : Type 0 where
 no-pick : {p : Pick} → pick.None ≡ pick.Some p → ⊥
 no-pick e = let no : _≡_ {A = ℕ} 0 1 = cc in absurd (omega arith)
 
-turn-quiet : (x : ℕ) (s t : State) → Calm x s t → Turn x s pick.None t
+turn-quiet : (x : ℕ) (s t : State) → Undisturbed x s t → Turn x s pick.None t
 turn-quiet x s t c = record { bands = λ p e. absurd (no-pick e); goes = inr (record { alike = c .alike; order = c .order }) }
 
 -- a call that first changes other things
-turn-after : (x : ℕ) (s t u : State) (o : PickOption) → Calm x s t → Turn x t o u → Turn x s o u
+turn-after : (x : ℕ) (s t u : State) (o : PickOption) → Undisturbed x s t → Turn x t o u → Turn x s o u
 turn-after x s t u o c r = record { bands = λ p e. subst (λ (b : QoSClass). bandCode (p .band) ≤ bandCode b) (c .alike .band) (r .bands p e); goes = on (r .goes) }
   where
     on : (isPick x o ≡ true) ⊎ WaitsOn x t o u → (isPick x o ≡ true) ⊎ WaitsOn x s o u
@@ -68,7 +68,7 @@ turn-after x s t u o c r = record { bands = λ p e. subst (λ (b : QoSClass). ba
     })
 
 -- P on a core that X may use
-module _ (s : State) (k : Kept s) (x : ℕ) (ready : task s x .state ≡ Ready) (c : ℕ) (low : c < 64) (may : permitted s c x ≡ true) where
+module _ (s : State) (k : Invariant s) (x : ℕ) (ready : task s x .state ≡ Ready) (c : ℕ) (low : c < 64) (may : permitted s c x ≡ true) where
   abbrev mine : QoSClass
   mine = task s x .qos
 
@@ -87,10 +87,9 @@ module _ (s : State) (k : Kept s) (x : ℕ) (ready : task s x .state ≡ Ready) 
 
       not-behind : bandCode (p .band) ≤ bandCode mine
       not-behind =
-          split (λ (b : Bool). leb (bandCode (p .band)) (bandCode mine) ≡ b → bandCode (p .band) ≤ bandCode mine) (leb (bandCode (p .band)) (bandCode mine))
-          (λ _ yes-so. leb-true (bandCode (p .band)) (bandCode mine) yes-so)
-          (λ _ later. absurd (not-overlooked s c mine x may (in-queue s k x ready) (earlier mine (leb-false (bandCode (p .band)) (bandCode mine) later))))
-          refl
+          split (λ _. bandCode (p .band) ≤ bandCode mine) (leb (bandCode (p .band)) (bandCode mine))
+          (λ yes-so. leb-true (bandCode (p .band)) (bandCode mine) yes-so)
+          (λ later. absurd (not-overlooked s c mine x may (in-queue s k x ready) (earlier mine (leb-false (bandCode (p .band)) (bandCode mine) later))))
 
       own-band : (x ≡ i → ⊥) → p .band ≡ mine → Sublistᴰ (i ∷ before x (queue t mine)) (before x (queue s mine))
       own-band other same =
@@ -100,24 +99,21 @@ module _ (s : State) (k : Kept s) (x : ℕ) (ready : task s x .state ≡ Ready) 
 
       goes-on : (isPick x (pick.Some p) ≡ true) ⊎ WaitsOn x s (pick.Some p) t
       goes-on =
-          split (λ (b : Bool). eqb i x ≡ b → (b ≡ true) ⊎ WaitsOn x s (pick.Some p) t) (eqb i x)
-          (λ _ _. inl refl)
-          (λ _ differs.
+          split (λ (b : Bool). (b ≡ true) ⊎ WaitsOn x s (pick.Some p) t) (eqb i x)
+          (λ _. inl refl)
+          (λ differs.
           let other : x ≡ i → ⊥ = λ same. eqb-false i x differs (sym same) in
-          let calm : Calm x s t = pick-held s k c p is low .calm x (other, may) ready in
+          let calm : Undisturbed x s t = pick-held s k c p is low .undisturbed x (other, may) ready in
           inr (record {
             alike = calm .alike;
             order = rw differs (
-                split (λ (b : Bool). eqb (bandCode (p .band)) (bandCode mine) ≡ b → Sublistᴰ (cond (b && true) (i ∷ before x (queue t mine)) (before x (queue t mine))) (before x (queue s mine))) (eqb (bandCode (p .band)) (bandCode mine))
-                (λ _ same. own-band other (bandCode-one (p .band) mine (eqb-true (bandCode (p .band)) (bandCode mine) same)))
-                (λ _ _. calm .order)
-                refl);
+                split (λ (b : Bool). Sublistᴰ (cond (b && true) (i ∷ before x (queue t mine)) (before x (queue t mine))) (before x (queue s mine))) (eqb (bandCode (p .band)) (bandCode mine))
+                (λ same. own-band other (bandCode-one (p .band) mine (eqb-true (bandCode (p .band)) (bandCode mine) same)))
+                (λ _. calm .order));
           }))
-          refl
 
   turn-P : Turn x s (ruleP c s .pick) (ruleP c s .state) × (ruleP c s .pick ≡ pick.None → ⊥)
-  unfolding ruleP
-  turn-P = rw (lt-ltb c 64 low) (turn-pick (choice-is s c))
+  turn-P = rw (P-below s c low) (turn-pick (choice-is s c))
 
 -- ---- one call of a stretch
 
@@ -129,14 +125,14 @@ allowed mask c low fine =
     (λ _ e. absurd (true≢false (ap (λ (b : Bool). b && true) (sym (lt-ltb c 64 low)) ∙ e)))
     fine
 
-module _ (s : State) (k : Kept s) (x : ℕ) (ready : task s x .state ≡ Ready) (call : Call) (left-alone : touches x call ≡ false) (may-use : forbids (task s x .«cpu_affinity») (named call) ≡ false) where
+module _ (s : State) (k : Invariant s) (x : ℕ) (ready : task s x .state ≡ Ready) (call : Call) (left-alone : touches x call ≡ false) (may-use : forbids (task s x .«cpu_affinity») (named call) ≡ false) where
   turn-course : {o : PickOption} {t : State} {r : Reach} → Course call s o t r → Turn x s o t
-  turn-course {o} {t} (quiet nobody-picked f) = subst (λ (q : PickOption). Turn x s q t) (sym nobody-picked) (turn-quiet x s t (f .calm x left-alone ready))
+  turn-course {o} {t} (quiet nobody-picked f) = subst (λ (q : PickOption). Turn x s q t) (sym nobody-picked) (turn-quiet x s t (f .undisturbed x left-alone ready))
   turn-course {o} {t} (reaching u c low names f p-is end-is) =
-      let calm : Calm x s u = f .calm x left-alone ready in
+      let calm : Undisturbed x s u = f .undisturbed x left-alone ready in
       let may : permits (task u x .«cpu_affinity») c ≡ true = ap (λ (m : ℕ). permits m c) (calm .alike .mask) ∙ allowed (task s x .«cpu_affinity») c low (ap (forbids (task s x .«cpu_affinity»)) (sym names) ∙ may-use) in
       subst (λ (q : PickOption). Turn x s q t) (sym p-is) (subst (λ (v : State). Turn x s (ruleP c u .pick) v) (sym end-is)
-      (turn-after x s u (ruleP c u .state) (ruleP c u .pick) calm (turn-P u (f .kept) x (calm .alike .state ∙ ready) c low may .0)))
+      (turn-after x s u (ruleP c u .state) (ruleP c u .pick) calm (turn-P u (f .invariant) x (calm .alike .state ∙ ready) c low may .0)))
 
   turn : Turn x s (step call s .answer .pick) (step call s .state)
   turn = turn-course (course call s k)
@@ -172,10 +168,6 @@ others-own band x pick.None later is = refl
 others-own band x (pick.Some p) later is =
     rw is (split (λ (t : Bool). cond (t && false) (p .slot .0 ∷ later) later ≡ later) (eqb (bandCode (p .band)) (bandCode band)) (λ _. refl) (λ _. refl))
 
-or-false : (a b : Bool) → a || b ≡ false → (a ≡ false) × (b ≡ false)
-or-false false b e = (refl, e)
-or-false true b e = absurd (true≢false e)
-
 not-picked : {x : ℕ} {s t : State} {o : PickOption} → Turn x s o t → isPick x o ≡ false → WaitsOn x s o t
 not-picked {x} {s} {t} {o} here not-x = on (here .goes)
   where
@@ -195,7 +187,7 @@ waits-on x s t e es ready picks-so here w later =
       in-order = Sublistᴰ·trans (others-sub (task s x .qos) x (e .answer .pick) (on .in-order)) (w .order);
     }
 
-bound : (next : List Call) (s : State) → Kept s → (x : ℕ) → task s x .state ≡ Ready → Bound (task s x .qos) x (ahead s x) (stretchOf x s next)
+bound : (next : List Call) (s : State) → Invariant s → (x : ℕ) → task s x .state ≡ Ready → Bound (task s x .qos) x (ahead s x) (stretchOf x s next)
 unfolding events stretch others Each
 bound [] s k x ready = no-calls (task s x .qos) x (ahead s x)
 bound (call ∷ next) s k x ready =
@@ -204,21 +196,19 @@ bound (call ∷ next) s k x ready =
     let o : PickOption = step call s .answer .pick in
     let e : Event = record { call = call; found = s; answer = step call s .answer } in
     let Holds : List Event → Type 0 = Bound band x (ahead s x) in
-    split (λ (b : Bool). breaks x e ≡ b → Holds (cond b [] (e ∷ cond (picks x e) [] (stretchOf x t next)))) (breaks x e)
-    (λ _ _. no-calls band x (ahead s x))
-    (λ _ unbroken.
-    let parts : (touches x call ≡ false) × (forbids (task s x .«cpu_affinity») (named call) ≡ false) = or-false (touches x call) _ unbroken in
+    split (λ (b : Bool). Holds (cond b [] (e ∷ cond (picks x e) [] (stretchOf x t next)))) (breaks x e)
+    (λ _. no-calls band x (ahead s x))
+    (λ unbroken.
+    let parts : (touches x call ≡ false) × (forbids (task s x .«cpu_affinity») (named call) ≡ false) = neither (touches x call) _ unbroken in
     let here : Turn x s o t = turn s k x ready call (parts .0) (parts .1) in
     let picks-so : SchedulePicks e = schedule-picks s k x ready call (parts .0) (parts .1) in
-    split (λ (b : Bool). picks x e ≡ b → Holds (e ∷ cond b [] (stretchOf x t next))) (picks x e)
-    (λ _ own. record { schedules = (picks-so, tt); bands = (here .bands, tt); in-order = rw (others-own band x o [] own) (Sublistᴰ·nil-sublist (ahead s x)) })
-    (λ _ not-x. waits-on x s t e (stretchOf x t next) ready picks-so here (not-picked here not-x) (λ still. bound next t (call-kept call s k) x still))
-    refl)
-    refl
+    split (λ (b : Bool). Holds (e ∷ cond b [] (stretchOf x t next))) (picks x e)
+    (λ own. record { schedules = (picks-so, tt); bands = (here .bands, tt); in-order = rw (others-own band x o [] own) (Sublistᴰ·nil-sublist (ahead s x)) })
+    (λ not-x. waits-on x s t e (stretchOf x t next) ready picks-so here (not-picked here not-x) (λ still. bound next t (call-invariant call s k) x still)))
 
 -- ---- demand 3
 
-point : (s : State) → Kept s → (next : List Call) → Point s next
+point : (s : State) → Invariant s → (next : List Call) → Point s next
 point s k next = record {
   consumed = λ slot. k .good slot .consumed;
   stands = λ x ready. before-cut x (queue s (task s x .qos)) (in-queue s k x ready);
@@ -240,7 +230,7 @@ point s k next = record {
 
 -- from every accepted state
 pub demand3 : (s : State) → Accepted s → (calls : List Call) → Claim s calls
-demand3 s a calls past next cut-here = point (run past s) (run-kept past s (accepted-kept s a)) next
+demand3 s a calls past next cut-here = point (run past s) (run-invariant past s (accepted-invariant s a)) next
 
 -- from new
 pub demand3-new : (calls : List Call) → Claim newState calls

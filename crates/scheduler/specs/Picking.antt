@@ -2,7 +2,7 @@
 use mathlib.Core.Bool.{Bool, cond}
 use mathlib.Core.List.{List, [], _∷_}
 use Prim.Native.Nat.{ℕ}
-use lib.Dec.{ltb}
+use lib.Dec.{ltb, leb}
 use lib.ListN.{length}
 use Rattle.records.specs.declared.band.QoSClass.{QoSClass}
 use Rattle.records.specs.declared.ids.SlotOption.{SlotOption}
@@ -56,7 +56,7 @@ noChoice s = record { next = slot.None; pick = pick.None; state = s }
 
 -- "None is answered only then, or for c of 64 and above (no change)."
 unfoldable pub ruleP : ℕ → State → Chosen
-ruleP core s = cond (ltb core 64) (afterPick s core (choice s core bandOrder)) (noChoice s)
+ruleP core s = cond (leb 64 core) (noChoice s) (afterPick s core (choice s core bandOrder))
 
 -- 06 schedule
 abbrev pub answerSlot : Chosen → Outcome

@@ -1,7 +1,7 @@
 -- Document 01, "Call frames": the queries 0b to 10. They change nothing and pick nobody.
 use mathlib.Core.Bool.{Bool, false, cond, _&&_}
 use Prim.Native.Nat.{ℕ}
-use lib.Dec.{ltb, eqb}
+use lib.Dec.{leb, eqb}
 use Rattle.records.specs.declared.ids.SlotOption.{SlotOption}
 use Rattle.records.specs.declared.ids.SlotOption.the-variants as slot
 use Rattle.records.specs.declared.task.TaskControlBlock.{TaskControlBlock}
@@ -16,18 +16,18 @@ use Rattle.scheduler.specs.Waking.{coreHolding}
 
 -- 0b `can_run_on_core`: "slot, core (taken modulo 64)"; "Slots of 64 and above give 00"
 unfoldable pub canRunOnCore : ℕ → ℕ → State → Bool
-canRunOnCore slot core s = cond (ltb slot 64) (permits (state.task s slot .«cpu_affinity») core) false
+canRunOnCore slot core s = cond (leb 64 slot) false (permits (state.task s slot .«cpu_affinity») core)
 
 -- 0c `task_index_for_tid`: "the lowest slot in use with that tid"
 abbrev pub slotBelow : ℕ → SlotOption
-slotBelow n = cond (ltb n 64) (slot.Some (record { 0 = n })) slot.None
+slotBelow n = cond (leb 64 n) slot.None (slot.Some (record { 0 = n }))
 
 unfoldable pub taskIndexForTid : ℕ → State → SlotOption
 taskIndexForTid tid s = slotBelow (firstPlace (λ (t : TaskControlBlock). t .«in_use» && eqb (t .tid .0) tid) (s .tasks))
 
 -- 0d `task`: the record; "Slots of 64 and above give 00"
 unfoldable pub taskAt : ℕ → State → TaskOption
-taskAt slot s = cond (ltb slot 64) (task.Some (state.task s slot)) task.None
+taskAt slot s = cond (leb 64 slot) task.None (task.Some (state.task s slot))
 
 -- 0e `current_task_on_cpu`: the holder's record; "such a core gives 00"
 abbrev pub recordOf : SlotOption → State → TaskOption
@@ -39,7 +39,7 @@ currentTaskOnCpu core s = recordOf (holderOf s core) s
 
 -- 10 holder: "answered by the lowest core whose holder it is"; "Slots of 64 and above give [..] ff", 255 too, which in a holder means none
 abbrev pub coreBelow : ℕ → CoreOption
-coreBelow n = cond (ltb n 64) (core.Some n) core.None
+coreBelow n = cond (leb 64 n) core.None (core.Some n)
 
 unfoldable pub coreOf : ℕ → State → CoreOption
-coreOf slot s = cond (ltb slot 64) (coreBelow (coreHolding s slot)) core.None
+coreOf slot s = cond (leb 64 slot) core.None (coreBelow (coreHolding s slot))

@@ -1,7 +1,7 @@
 -- Document 01, "Tick, yield, handoff, plan", with their refusals in the table's order.
-use mathlib.Core.Bool.{Bool, true, false, cond, _||_}
+use mathlib.Core.Bool.{Bool, true, false, cond, not, _||_}
 use Prim.Native.Nat.{ℕ, _+_, _%_, _^_}
-use lib.Dec.{ltb, leb, eqb}
+use lib.Dec.{leb, eqb}
 use Rattle.records.specs.declared.band.QoSClass.{QoSClass}
 use Rattle.records.specs.declared.band.QoSClass.the-variants.{UserInteractive, RealTimeIO, Background}
 use Rattle.records.specs.declared.error.SchedError.the-variants.{NoSuchTask, NotBlocked}
@@ -65,7 +65,7 @@ tickHolder (slot.Some h) core elapsed s =
 
 -- "Tick on core c, in order: c of 64 or more answers none, nothing changed."
 unfoldable pub ticked : ℕ → ℕ → State → Chosen
-ticked core elapsed s = cond (ltb core 64) (tickHolder (holderOf s core) core elapsed (gain elapsed s)) (noChoice s)
+ticked core elapsed s = cond (leb 64 core) (noChoice s) (tickHolder (holderOf s core) core elapsed (gain elapsed s))
 
 -- 07 tick
 unfoldable pub tick : ℕ → ℕ → State → Outcome
@@ -93,17 +93,16 @@ planOf previous next s = cond (same previous next) plan.None (plan.Some (record 
 abbrev pub answerPlan : SlotOption → Chosen → Outcome
 answerPlan previous c = chosenAs (value.Plan (planOf previous (c .next) (c .state))) c
 
--- "a holder that is Running is enqueued and cleared; then P"; 3 where "its holder [is] not Running". No holder: P.
+-- "a holder that is Running is enqueued and cleared; then P"; 3 where "its holder [is] not Running". No holder: P, and the previous is none.
 abbrev pub yieldHolder : SlotOption → ℕ → State → Outcome
 yieldHolder slot.None core s = answerPlan slot.None (ruleP core s)
 yieldHolder (slot.Some h) core s =
-    cond (isState (task s (h .0) .state) Running) (
+    cond (not (isState (task s (h .0) .state) Running)) (refused NoSuchTask s) (
     andThen (enqueue (h .0) s) (λ t. answerPlan (slot.Some h) (ruleP core (cleared core t))))
-    (refused NoSuchTask s)
 
 -- 08 yield: 3 where "core 64 or above"
 unfoldable pub yield : ℕ → State → Outcome
-yield core s = cond (ltb core 64) (yieldHolder (holderOf s core) core s) (refused NoSuchTask s)
+yield core s = cond (leb 64 core) (refused NoSuchTask s) (yieldHolder (holderOf s core) core s)
 
 -- "Running gives no plan; Blocked is cleared, then P"; 6 where "holder Ready". A Terminated one is not in use, so it is no holder.
 abbrev pub handoffIn : ThreadState → Slot → ℕ → State → Outcome
@@ -112,14 +111,15 @@ handoffIn Blocked h core s = answerPlan (slot.Some h) (ruleP core (cleared core 
 handoffIn Ready h core s = refused NotBlocked s
 handoffIn Terminated h core s = refused NoSuchTask s
 
+-- 3 where there is "no holder"
 abbrev pub handoffHolder : SlotOption → ℕ → State → Outcome
 handoffHolder slot.None core s = refused NoSuchTask s
 handoffHolder (slot.Some h) core s = handoffIn (task s (h .0) .state) h core s
 
--- 09 handoff: 3 where "core 64 or above, or no holder"
+-- 09 handoff: 3 where "core 64 or above"
 unfoldable pub handoff : ℕ → State → Outcome
-handoff core s = cond (ltb core 64) (handoffHolder (holderOf s core) core s) (refused NoSuchTask s)
+handoff core s = cond (leb 64 core) (refused NoSuchTask s) (handoffHolder (holderOf s core) core s)
 
 -- 0a plan: "Plan runs the tick; for c of 64 and above it gives no plan."
 unfoldable pub planned : ℕ → ℕ → State → Outcome
-planned core elapsed s = cond (ltb core 64) (answerPlan (holderOf s core) (ticked core elapsed s)) (done (value.Plan plan.None) s)
+planned core elapsed s = cond (leb 64 core) (done (value.Plan plan.None) s) (answerPlan (holderOf s core) (ticked core elapsed s))

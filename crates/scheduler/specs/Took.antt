@@ -3,7 +3,7 @@
 use mathlib.Core.Path.{_≡_}
 use mathlib.Core.Bool.{cond}
 use Prim.Native.Nat.{ℕ}
-use lib.Dec.{ltb}
+use lib.Dec.{leb}
 use Rattle.records.specs.declared.ids.Slot.{Slot}
 use Rattle.records.specs.declared.ids.SlotOption.{SlotOption}
 use Rattle.records.specs.declared.ids.SlotOption.the-variants as slot
@@ -28,7 +28,7 @@ pub data Reach : Type 0 where
 
 -- "Rule P, core c below 64"
 abbrev pub below : ℕ → Reach → Reach
-below core r = cond (ltb core 64) r unreached
+below core r = cond (leb 64 core) unreached r
 
 -- "consumed becomes 0, the holder is enqueued unless Ready"
 abbrev pub backToQueue : ℕ → State → State

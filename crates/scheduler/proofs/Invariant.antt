@@ -22,10 +22,11 @@ use Rattle.records.proofs.Bands.{bandCode-one}
 use Rattle.records.proofs.Cases.{split}
 use Rattle.records.proofs.States.{isState-true}
 use Rattle.queue.specs.Rules.{count, full, without}
-use Rattle.queue.proofs.Counts.{count-append, count-one, count-other, count-entry, count-without-same, count-without-other, length-without}
+use Rattle.queue.proofs.Counts.{count-entry}
 use Rattle.scheduler.specs.State.{State, nobody, task, queue, holder}
 use Rattle.scheduler.specs.Accepted.{Accepted, ReadyOf, MayHold, standings, readyOf}
-use Rattle.scheduler.proofs.Lists.{count-place}
+use Rattle.scheduler.proofs.Lists.{count-place, bounded, room}
+use Rattle.scheduler.proofs.Says.{ready-of}
 
 -- ---- how often a record asks to stand in a band's queue
 
@@ -36,27 +37,21 @@ pub due-small : (band : QoSClass) (t : TaskControlBlock) → due band t ≤ 1
 due-small band t = split (λ (b : Bool). cond b 1 0 ≤ 1) (readyOf band t) (λ _. omega arith) (λ _. omega arith)
 
 pub due-is : (band : QoSClass) (t : TaskControlBlock) → 1 ≤ due band t → ReadyOf band t
-due-is band t =
-    split (λ (r : Bool). isState (t .state) Ready ≡ r → 1 ≤ cond (r && eqb (bandCode (t .qos)) (bandCode band)) 1 0 → ReadyOf band t) (isState (t .state) Ready)
-    (λ _ ready.
-    split (λ (b : Bool). eqb (bandCode (t .qos)) (bandCode band) ≡ b → 1 ≤ cond b 1 0 → ReadyOf band t) (eqb (bandCode (t .qos)) (bandCode band))
-    (λ _ is _. record { ready = isState-true (t .state) Ready ready; of-band = bandCode-one (t .qos) band (eqb-true (bandCode (t .qos)) (bandCode band) is) })
-    (λ _ _ h. absurd (omega arith))
-    refl)
-    (λ _ _ h. absurd (omega arith))
-    refl
+due-is band t = split (λ (b : Bool). 1 ≤ cond b 1 0 → ReadyOf band t) (readyOf band t) (λ is _. ready-of band t .0 is) (λ _ h. absurd (omega arith))
 
 pub due-ready : (band : QoSClass) (t : TaskControlBlock) → ReadyOf band t → due band t ≡ 1
-due-ready band t r =
-    let ready : isState (t .state) Ready ≡ true = ap (λ (st : ThreadState). isState st Ready) (r .ready) in
-    rw ready (rw (eq-eqb (bandCode (t .qos)) (bandCode band) (ap bandCode (r .of-band))) refl)
+due-ready band t r = ap (λ (b : Bool). cond b 1 0) (ready-of band t .1 r)
 
 pub due-not : (band : QoSClass) (t : TaskControlBlock) → (ReadyOf band t → ⊥) → due band t ≡ 0
-due-not band t other =
-    split (λ (b : Bool). due band t ≡ cond b 1 0 → due band t ≡ 0) (readyOf band t)
-    (λ _ e. absurd (other (due-is band t (omega arith))))
-    (λ _ e. e)
-    refl
+due-not band t other = split (λ (b : Bool). _≡_ {A = ℕ} (cond b 1 0) 0) (readyOf band t) (λ is. absurd (other (ready-of band t .0 is))) (λ _. refl)
+
+-- Ready and not Ready are two
+pub not-both : (st : ThreadState) → st ≡ Ready → isState st Ready ≡ false → ⊥
+not-both st is other = true≢false (ap (λ (q : ThreadState). isState q Ready) (sym is) ∙ other)
+
+-- a record that is not Ready asks for no place
+pub due-idle : (band : QoSClass) (t : TaskControlBlock) → isState (t .state) Ready ≡ false → due band t ≡ 0
+due-idle band t idle = due-not band t (λ r. not-both (t .state) (r .ready) idle)
 
 -- ---- the form itself
 
@@ -67,7 +62,7 @@ pub record Good (t : TaskControlBlock) : Type 0 where
   pub budget : (t .«slice_budget_us» ≡ 0) ⊎ (t .«slice_budget_us» ≡ slice (t .qos))
   pub consumed : t .«consumed_slice_us» < slice (t .qos)
 
-pub record Kept (s : State) : Type 0 where
+pub record Invariant (s : State) : Type 0 where
   pub slots : length (s .tasks) ≡ 64
   pub cores : length (s .holders) ≡ 64
   pub good : (slot : ℕ) → Good (task s slot)
@@ -80,18 +75,16 @@ empty-good = record { in-use = refl; mask = λ e. omega arith; budget = inl refl
 -- what holds of the first n elements and of the default holds of all that can be read
 pub everywhere : {A : Type 0} (P : A → Type 0) (l : List A) (d : A) (n : ℕ) → length l ≡ n → P d → ((i : ℕ) → i < n → P (getD l i d)) → (i : ℕ) → P (getD l i d)
 everywhere P l d n whole out within i =
-    split (λ (b : Bool). ltb i n ≡ b → P (getD l i d)) (ltb i n)
-    (λ _ is. within i (ltb-true i n is))
-    (λ _ no. subst P (sym (List·getD-eq-default l d (let past : length l ≤ i = omega (arith, ltb-false i n no) in past))) out)
-    refl
+    split (λ _. P (getD l i d)) (ltb i n)
+    (λ is. within i (ltb-true i n is))
+    (λ no. subst P (sym (List·getD-eq-default l d (let past : length l ≤ i = omega (arith, ltb-false i n no) in past))) out)
 
 -- a slot whose record is not the empty one is one of the 64
 pub in-table : (s : State) → length (s .tasks) ≡ 64 → (slot : ℕ) → (task s slot ≡ emptyRecord → ⊥) → slot < 64
 in-table s whole slot filled =
-    split (λ (b : Bool). ltb slot 64 ≡ b → slot < 64) (ltb slot 64)
-    (λ _ is. ltb-true slot 64 is)
-    (λ _ out. absurd (filled (List·getD-eq-default (s .tasks) emptyRecord (let past : length (s .tasks) ≤ slot = omega (arith, ltb-false slot 64 out) in past))))
-    refl
+    split (λ _. slot < 64) (ltb slot 64)
+    (λ is. ltb-true slot 64 is)
+    (λ out. absurd (filled (List·getD-eq-default (s .tasks) emptyRecord (let past : length (s .tasks) ≤ slot = omega (arith, ltb-false slot 64 out) in past))))
 
 pub ready-in-table : (s : State) → length (s .tasks) ≡ 64 → (slot : ℕ) → task s slot .state ≡ Ready → slot < 64
 ready-in-table s whole slot ready =
@@ -103,22 +96,7 @@ used-in-table s whole slot used =
 
 -- ---- a queue has room for whoever is not in it
 
--- distinct numbers below n are at most n
-bounded : (n : ℕ) (es : List ℕ) → ((i : ℕ) → 1 ≤ count i es → i < n) → ((i : ℕ) → count i es ≤ 1) → length es ≤ n
-bounded zero [] below once = omega arith
-bounded zero (e ∷ es) below once = absurd (omega (arith, below e (count-entry 0 (e ∷ es) (omega arith))))
-bounded (suc n) es below once =
-    let fewer : (i : ℕ) → count i (without n es) ≤ count i es = λ i.
-    split (λ (b : Bool). eqb i n ≡ b → count i (without n es) ≤ count i es) (eqb i n)
-    (λ _ is. rw (eqb-true i n is) (omega (arith, count-without-same n es)))
-    (λ _ other. omega (arith, count-without-other n i es (eqb-false i n other)))
-    refl in
-    let lower : (i : ℕ) → 1 ≤ count i (without n es) → i < n = λ i h.
-    let apart : i ≡ n → ⊥ = λ same. let none : count i (without n es) ≡ 0 = ap (λ (k : ℕ). count k (without n es)) same ∙ count-without-same n es in absurd (omega arith) in
-    omega (arith, below i (let more : 1 ≤ count i es = omega (arith, fewer i) in more), apart) in
-    omega (arith, length-without n es, once n, bounded n (without n es) lower (λ i. let few : count i (without n es) ≤ 1 = omega (arith, fewer i, once i) in few))
-
-module _ (s : State) (k : Kept s) where
+module _ (s : State) (k : Invariant s) where
   pub entry-ready : (band : QoSClass) (slot : ℕ) → 1 ≤ count slot (queue s band) → ReadyOf band (task s slot)
   entry-ready band slot h = due-is band (task s slot) (let d : 1 ≤ due band (task s slot) = omega (arith, k .queued band slot) in d)
 
@@ -133,21 +111,9 @@ module _ (s : State) (k : Kept s) where
 
   -- "64 entries stand in it" is never so for a slot that could be queued
   pub never-full : (band : QoSClass) (slot : ℕ) → slot < 64 → isState (task s slot .state) Ready ≡ false → full (queue s band) ≡ false
-  never-full band slot low waits-not =
-      let es : List ℕ = queue s band in
-      let absent : count slot es ≡ 0 = k .queued band slot ∙ due-not band (task s slot) (λ r.
-      true≢false (ap (λ (st : ThreadState). isState st Ready) (sym (r .ready)) ∙ waits-not)) in
-      let split-count : (i : ℕ) → count i (slot ∷ es) ≡ count i (slot ∷ []) + count i es = λ i. count-append i (slot ∷ []) es in
-      let room : length (slot ∷ es) ≤ 64 = bounded 64 (slot ∷ es)
-      (λ i. split (λ (b : Bool). eqb i slot ≡ b → 1 ≤ count i (slot ∷ es) → i < 64) (eqb i slot)
-      (λ _ is _. omega (arith, eqb-true i slot is))
-      (λ _ other h. entry-below band i (let more : 1 ≤ count i es = omega (arith, split-count i, count-other i slot (eqb-false i slot other)) in more))
-      refl)
-      (λ i. split (λ (b : Bool). eqb i slot ≡ b → count i (slot ∷ es) ≤ 1) (eqb i slot)
-      (λ _ is. rw (eqb-true i slot is) (omega (arith, split-count slot, count-one slot)))
-      (λ _ other. omega (arith, split-count i, count-other i slot (eqb-false i slot other), entry-once band i))
-      refl) in
-      lt-leb 64 (length es) (let less : length es < 64 = omega arith in less)
+  never-full band slot low idle =
+      let missing : count slot (queue s band) ≡ 0 = k .queued band slot ∙ due-idle band (task s slot) idle in
+      lt-leb 64 (length (queue s band)) (room 64 (queue s band) slot (entry-below band) (entry-once band) low missing)
 
 -- ---- the two forms are one
 
@@ -156,8 +122,8 @@ one-band UserInteractive = refl
 one-band RealTimeIO = refl
 one-band Background = refl
 
-pub kept-accepted : (s : State) → Kept s → Accepted s
-kept-accepted s k = record {
+pub invariant-accepted : (s : State) → Invariant s → Accepted s
+invariant-accepted s k = record {
   slots = k .slots;
   cores = k .cores;
   in-use = λ slot _. k .good slot .in-use;
@@ -184,10 +150,9 @@ module _ (s : State) (a : Accepted s) where
   -- in a band that is not its own a slot does not stand
   elsewhere : (band : QoSClass) (slot : ℕ) → (ReadyOf band (task s slot) → ⊥) → count slot (queue s band) ≡ 0
   elsewhere band slot other =
-      split (λ (b : Bool). eqb (count slot (queue s band)) 0 ≡ b → count slot (queue s band) ≡ 0) (eqb (count slot (queue s band)) 0)
-      (λ _ is. eqb-true (count slot (queue s band)) 0 is)
-      (λ _ more. absurd (other (stands-ready band slot (omega (arith, eqb-false (count slot (queue s band)) 0 more)))))
-      refl
+      split (λ _. count slot (queue s band) ≡ 0) (eqb (count slot (queue s band)) 0)
+      (λ is. eqb-true (count slot (queue s band)) 0 is)
+      (λ more. absurd (other (stands-ready band slot (omega (arith, eqb-false (count slot (queue s band)) 0 more)))))
 
   apart : (b c : QoSClass) (slot : ℕ) → ReadyOf b (task s slot) → (bandCode b ≡ bandCode c → ⊥) → count slot (queue s c) ≡ 0
   apart b c slot r different = elsewhere c slot (λ q. different (ap bandCode (sym (r .of-band) ∙ q .of-band)))
@@ -203,8 +168,8 @@ module _ (s : State) (a : Accepted s) where
   stands-once Background slot r =
       omega (arith, somewhere Background slot r, apart Background UserInteractive slot r (λ e. omega arith), apart Background RealTimeIO slot r (λ e. omega arith))
 
-pub accepted-kept : (s : State) → Accepted s → Kept s
-accepted-kept s a = record {
+pub accepted-invariant : (s : State) → Accepted s → Invariant s
+accepted-invariant s a = record {
   slots = a .slots;
   cores = a .cores;
   good = everywhere Good (s .tasks) emptyRecord 64 (a .slots) empty-good (λ slot h. record { in-use = a .in-use slot h; mask = a .masks slot h; budget = a .budgets slot h; consumed = a .consumed slot h });
