@@ -26,7 +26,7 @@ use Rattle.records.proofs.Cases.{split, by-if, neither}
 use Rattle.records.proofs.Masks.{storedMask-nonzero}
 use Rattle.records.proofs.States.{isState-true}
 use Rattle.scheduler.specs.declared.answer.Value.the-variants as value
-use Rattle.scheduler.specs.State.{State, nobody, task, queue, holder, holderOf, withTask}
+use Rattle.scheduler.specs.State.{State, nobody, task, holder, holderOf, withTask}
 use Rattle.scheduler.specs.Accepted.{MayHold}
 use Rattle.scheduler.specs.Outcome.{Outcome, done}
 use Rattle.scheduler.specs.Waking.{freeSlot, released, outOfHolders, outOfQueues, ended, missing, enqueued, enqueue}

@@ -2,12 +2,12 @@
 -- often as its record says, once if it is Ready and of that band, else not at all. Every slot and core is spoken of; those of 64 and above read
 -- as the empty record and as none. The two forms are shown equal. Assumes nothing.
 use mathlib.Core.Path.{_≡_, refl, sym, ap, _∙_, subst}
-use mathlib.Core.Bool.{Bool, true, false, cond, not, _&&_, true≢false}
-use mathlib.Core.List.{List, [], _∷_}
-use mathlib.Core.Logic.{_⊎_, inl, inr}
-use Prim.Native.Nat.{ℕ, zero, suc, _+_, _≤_, _<_}
+use mathlib.Core.Bool.{Bool, true, false, cond, not, true≢false}
+use mathlib.Core.List.{List}
+use mathlib.Core.Logic.{_⊎_, inl}
+use Prim.Native.Nat.{ℕ, _+_, _≤_, _<_}
 use native.Mathlib.Omega.{arith}
-use borrow.Author.Tests.{ltb-true, ltb-false, lt-leb, eqb-true, eqb-false, eq-eqb, ne-eqb}
+use borrow.Author.Tests.{ltb-true, ltb-false, lt-leb, eqb-true, eqb-false}
 use lib.Dec.{ltb, eqb}
 use lib.ListN.{length, getD, List·getD-eq-default}
 use Rattle.records.specs.declared.band.QoSClass.{QoSClass}
@@ -18,10 +18,8 @@ use Rattle.records.specs.declared.task.TaskControlBlock.{TaskControlBlock}
 use Rattle.records.specs.Band.{bandCode, slice}
 use Rattle.records.specs.State.{isState}
 use Rattle.records.specs.Task.{emptyRecord}
-use Rattle.records.proofs.Bands.{bandCode-one}
 use Rattle.records.proofs.Cases.{split}
-use Rattle.records.proofs.States.{isState-true}
-use Rattle.queue.specs.Rules.{count, full, without}
+use Rattle.queue.specs.Rules.{count, full}
 use Rattle.queue.proofs.Counts.{count-entry}
 use Rattle.scheduler.specs.State.{State, nobody, task, queue, holder}
 use Rattle.scheduler.specs.Accepted.{Accepted, ReadyOf, MayHold, standings, readyOf}

@@ -1,6 +1,6 @@
 -- Laws about lists of entries: the first place that passes a test, distinct numbers, the entries before one, and parts of a list in its order. The heart of the
 -- waiting bound is `passed`: where an entry is taken that stands before x, what is then left before x stood before it. Assumes nothing.
-use mathlib.Core.Path.{_≡_, refl, sym, ap, _∙_, subst}
+use mathlib.Core.Path.{_≡_, refl, sym, ap, _∙_}
 use mathlib.Core.Bool.{Bool, true, false, cond, true≢false}
 use mathlib.Core.List.{List, [], _∷_, _++_, Sublistᴰ, Sublistᴰ·slnil, Sublistᴰ·cons, Sublistᴰ·cons-cons, Sublistᴰ·refl}
 use Prim.Native.Nat.{ℕ, zero, suc, _+_, _≤_, _<_}

@@ -2,27 +2,23 @@
 -- Ready, with its band and mask, nobody new before it, and those before it in their order. `safe` says which waiting slots a change leaves
 -- alone. Assumes nothing.
 use mathlib.Core.Path.{_≡_, refl, sym, ap, _∙_, subst}
-use mathlib.Core.Bool.{Bool, true, false, cond, not, true≢false}
-use mathlib.Core.List.{List, [], _∷_, _++_, map, Sublistᴰ, Sublistᴰ·refl, Sublistᴰ·trans}
+use mathlib.Core.Bool.{true, false, not}
+use mathlib.Core.List.{List, [], _∷_, _++_, Sublistᴰ, Sublistᴰ·refl, Sublistᴰ·trans}
 use mathlib.Core.Logic.{_⊎_, inl, inr}
 use Prim.Native.Nat.{ℕ, _+_, _≤_, _<_}
 use native.Mathlib.Omega.{arith}
-use borrow.Author.Tests.{eqb-true, eqb-false}
-use lib.Dec.{eqb}
-use lib.ListN.{length, getD, set, length-set, length-map, List·getD-map}
+use lib.ListN.{length, getD, set, length-set}
 use Rattle.records.specs.declared.band.QoSClass.{QoSClass}
-use Rattle.records.specs.declared.state.ThreadState.{ThreadState}
-use Rattle.records.specs.declared.state.ThreadState.the-variants.{Ready, Terminated}
+use Rattle.records.specs.declared.state.ThreadState.the-variants.{Ready}
 use Rattle.records.specs.declared.task.TaskControlBlock.{TaskControlBlock}
 use Rattle.records.specs.State.{isState}
 use Rattle.records.specs.Task.{emptyRecord, withState}
-use Rattle.records.proofs.Cases.{split}
-use Rattle.queue.specs.Rules.{count, pushed, without, full}
+use Rattle.queue.specs.Rules.{count, pushed, without}
 use Rattle.queue.proofs.Counts.{count-append, count-one, count-other, count-without-same, count-without-other}
 use Rattle.queue.proofs.Rules.{takes-slot, pushed-taken}
 use Rattle.scheduler.specs.State.{State, Queues, nobody, task, ofBand, withBand, eachQueue, queue, holder, withTask, withQueues, withHolders, withHolder, withMicros}
-use Rattle.scheduler.specs.Accepted.{ReadyOf, MayHold}
-use Rattle.scheduler.specs.Waking.{enqueued, outOfQueues, released, outOfHolders}
+use Rattle.scheduler.specs.Accepted.{MayHold}
+use Rattle.scheduler.specs.Waking.{enqueued, outOfQueues}
 use Rattle.scheduler.specs.Stretch.{before}
 use Rattle.scheduler.proofs.Invariant.{Good, Invariant, due, due-ready, due-not, due-idle, not-both, never-full, used-in-table}
 use Rattle.scheduler.proofs.Lists.{before-append, before-without}

@@ -1,9 +1,9 @@
 -- Rule P: it keeps acceptance; it picks nobody only where no queue has a permitted entry; and where X waits and may use the core, it picks X or
 -- somebody whom X must let pass: from an earlier band, or from before X in X's own. Assumes nothing.
 use mathlib.Core.Path.{_≡_, refl, sym, ap, _∙_, subst}
-use mathlib.Core.Bool.{Bool, true, false, cond, not, _&&_}
+use mathlib.Core.Bool.{Bool, true, false, not}
 use mathlib.Core.List.{List, [], _∷_, _++_, Sublistᴰ, Sublistᴰ·cons, Sublistᴰ·refl, Sublistᴰ·trans}
-use mathlib.Core.Logic.{_⊎_, inl, inr}
+use mathlib.Core.Logic.{inl, inr}
 use Prim.Native.Nat.{ℕ, _+_, _≤_, _<_}
 use native.Mathlib.Omega.{arith}
 use borrow.Author.Tests.{le-leb, lt-leb}
@@ -14,25 +14,24 @@ use Rattle.records.specs.declared.band.QoSClass.the-variants.{UserInteractive, 
 use Rattle.records.specs.declared.ids.SlotOption.{SlotOption}
 use Rattle.records.specs.declared.ids.SlotOption.the-variants as slot
 use Rattle.records.specs.declared.state.ThreadState.{ThreadState}
-use Rattle.records.specs.declared.state.ThreadState.the-variants.{Ready, Terminated}
-use Rattle.records.specs.declared.task.TaskControlBlock.{TaskControlBlock}
+use Rattle.records.specs.declared.state.ThreadState.the-variants.{Terminated}
 use Rattle.records.specs.Band.{bandCode}
 use Rattle.records.specs.State.{isState}
 use Rattle.records.specs.Task.{emptyRecord, picked}
 use Rattle.records.proofs.Bands.{slice-positive}
-use Rattle.records.proofs.Cases.{split, by-if}
-use Rattle.queue.specs.Rules.{count, takenAt, entryAt}
+use Rattle.records.proofs.Cases.{split}
+use Rattle.queue.specs.Rules.{count, takenAt}
 use Rattle.queue.proofs.Counts.{count-one, count-other, count-taken, count-entry}
 use Rattle.queue.proofs.Rules.{entryAt-some, entryAt-none, takenAt-cut}
 use Rattle.scheduler.specs.declared.answer.Pick.{Pick}
 use Rattle.scheduler.specs.declared.answer.PickOption.{PickOption}
 use Rattle.scheduler.specs.declared.answer.PickOption.the-variants as pick
-use Rattle.scheduler.specs.State.{State, Queues, nobody, bandOrder, task, ofBand, withBand, queue, withTask, withQueue, withHolder, firstPlace}
+use Rattle.scheduler.specs.State.{State, nobody, bandOrder, task, withBand, queue, withTask, withQueue}
 use Rattle.scheduler.specs.Accepted.{ReadyOf, MayHold}
 use Rattle.scheduler.specs.Outcome.{Chosen}
 use Rattle.scheduler.specs.Picking.{permitted, placeFor, firstPermitted, foundIn, choice, afterPick, noChoice, ruleP}
 use Rattle.scheduler.specs.Stretch.{before}
-use Rattle.scheduler.proofs.Invariant.{Good, Invariant, due, due-small, due-not, entry-ready, ready-in-table}
+use Rattle.scheduler.proofs.Invariant.{Invariant, due-small, due-not, entry-ready, ready-in-table}
 use Rattle.scheduler.proofs.Lists.{Cut, cut, firstPlace-found, passed}
 use Rattle.scheduler.proofs.Moves.{Harmless, then, move, hold}
 use Rattle.scheduler.proofs.Parts.{each-queue}

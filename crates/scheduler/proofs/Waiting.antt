@@ -1,14 +1,13 @@
 -- Demand 3 on the rules. One call, seen by an X that waits: it picks X, or leaves X waiting behind fewer. Then, along X's stretch, those who
 -- are picked from X's band are a part of those before X, in their order. Assumes nothing.
 use mathlib.Core.Path.{_≡_, refl, sym, ap, _∙_, subst}
-use mathlib.Core.Bool.{Bool, true, false, cond, not, _&&_, _||_, true≢false}
+use mathlib.Core.Bool.{Bool, true, false, cond, not, _&&_, true≢false}
 use mathlib.Core.List.{List, [], _∷_, _++_, Sublistᴰ, Sublistᴰ·cons-cons, Sublistᴰ·nil-sublist, Sublistᴰ·trans}
 use mathlib.Core.Logic.{_⊎_, inl, inr}
 use Prim.Native.Nat.{ℕ, _≤_, _<_}
 use native.Mathlib.Omega.{arith}
-use borrow.Author.Tests.{lt-ltb, ltb-true, leb-true, leb-false, eqb-true, eqb-false}
+use borrow.Author.Tests.{lt-ltb, leb-true, leb-false, eqb-true, eqb-false}
 use lib.Dec.{ltb, leb, eqb}
-use lib.ListN.{length}
 use Rattle.records.specs.declared.band.QoSClass.{QoSClass}
 use Rattle.records.specs.declared.state.ThreadState.the-variants.{Ready}
 use Rattle.records.specs.Band.{bandCode}
@@ -19,7 +18,6 @@ use Rattle.queue.specs.Rules.{count, takenAt}
 use Rattle.queue.proofs.Counts.{count-append}
 use Rattle.scheduler.specs.declared.call.Call.{Call}
 use Rattle.scheduler.specs.declared.call.Call.the-variants.{Schedule}
-use Rattle.scheduler.specs.declared.answer.CoreOption.{CoreOption}
 use Rattle.scheduler.specs.declared.answer.CoreOption.the-variants as core
 use Rattle.scheduler.specs.declared.answer.Pick.{Pick}
 use Rattle.scheduler.specs.declared.answer.PickOption.{PickOption}
@@ -30,12 +28,12 @@ use Rattle.scheduler.specs.Picking.{permitted, placeFor, afterPick, rule
 use Rattle.scheduler.specs.Step.{step, run}
 use Rattle.scheduler.specs.Took.{Reach}
 use Rattle.scheduler.specs.Stretch.{Event, events, named, touches, forbids, breaks, isPick, picks, stretch, stretchOf, othersIn, others, before, ahead}
-use Rattle.scheduler.specs.Demand3.{Each, SchedulePicks, NotBehind, Waiting, Point, Claim}
+use Rattle.scheduler.specs.Demand3.{Each, SchedulePicks, NotBehind, Point, Claim}
 use Rattle.scheduler.proofs.Calls.{new-accepted, call-invariant, run-invariant}
-use Rattle.scheduler.proofs.Course.{Untouched, Course, quiet, reaching, course}
+use Rattle.scheduler.proofs.Course.{Course, quiet, reaching, course}
 use Rattle.scheduler.proofs.Invariant.{Invariant, accepted-invariant, entry-once}
 use Rattle.scheduler.proofs.Lists.{sub-length, sub-count, before-cut}
-use Rattle.scheduler.proofs.Moves.{Alike, Undisturbed, Harmless, in-queue}
+use Rattle.scheduler.proofs.Moves.{Alike, Undisturbed, in-queue}
 use Rattle.scheduler.proofs.Parts.{ofBand-with}
 use Rattle.scheduler.proofs.Picks.{Choice, taken, none, choice-is, not-overlooked, pick-order, pick-held, P-below}
 

@@ -1,6 +1,5 @@
 -- What a call makes of a state: an answer and a state. Document 01, "Picking": "Each answer also carries the pick made [..], or none"; the
 -- table of refusals: "A refusal changes no state"; "Call frames": "Refused: no value."
-use Prim.Native.Nat.{ℕ}
 use Rattle.records.specs.declared.error.SchedError.{SchedError}
 use Rattle.records.specs.declared.ids.SlotOption.{SlotOption}
 use Rattle.scheduler.specs.declared.answer.Answer.{Answer}

@@ -1,9 +1,8 @@
 -- X's stretch, from demand 3 and document 01's paragraph on its list: the list call by call, which calls end the stretch, its picks, and the
 -- entries before X. Everything here computes.
-use mathlib.Core.Path.{_≡_}
-use mathlib.Core.Bool.{Bool, true, false, cond, not, _&&_, _||_}
+use mathlib.Core.Bool.{Bool, false, cond, not, _&&_, _||_}
 use mathlib.Core.List.{List, [], _∷_}
-use Prim.Native.Nat.{ℕ, _<_}
+use Prim.Native.Nat.{ℕ}
 use lib.Dec.{ltb, eqb}
 use Rattle.records.specs.declared.band.QoSClass.{QoSClass}
 use Rattle.records.specs.Band.{bandCode}
