@@ -30,7 +30,7 @@ new-accepted = accepts-sound newState refl
 
 invariant-by : {call : Call} {s : State} {p : PickOption} {end : State} {r : Reach} → Course call s p end r → Invariant end
 invariant-by (quiet nobody-picked f) = f .invariant
-invariant-by (reaching t c low names f p-is end-is) = subst Invariant (sym end-is) (P-invariant t (f .invariant) c low)
+invariant-by (reaching t c low on-it f p-is end-is) = subst Invariant (sym end-is) (P-invariant t (f .invariant) c low)
 
 pub call-invariant : (call : Call) (s : State) → Invariant s → Invariant (step call s .state)
 call-invariant call s k = invariant-by (course call s k)
@@ -55,11 +55,11 @@ room-in-queue s a = never-full s (accepted-invariant s a)
 
 carried-by : {call : Call} {s : State} {p : PickOption} {end : State} {r : Reach} → Course call s p end r → p ≡ takenBy r
 carried-by (quiet nobody-picked f) = nobody-picked
-carried-by (reaching t c low names f p-is end-is) = p-is
+carried-by (reaching t c low on-it f p-is end-is) = p-is
 
 ended-by : {call : Call} {s : State} {p : PickOption} {end : State} {r : Reach} → Course call s p end r → (t : State) (c : ℕ) → r ≡ reaches t c → end ≡ ruleP c t .state
 ended-by (quiet nobody-picked f) t c is = let no : _≡_ {A = ℕ} 0 1 = cc in absurd (omega arith)
-ended-by (reaching u d low names f p-is end-is) t c is =
+ended-by (reaching u d low on-it f p-is end-is) t c is =
     let from : u ≡ t = cc in
     let on : d ≡ c = cc in
     end-is ∙ (λ i. ruleP (on i) (from i) .state)

@@ -4,8 +4,8 @@ use mathlib.Core.Path.{_≡_, refl, sym, ap}
 use mathlib.Core.Bool.{Bool, true, false, cond, not}
 use Prim.Native.Nat.{ℕ, _≤_, _<_}
 use native.Mathlib.Omega.{arith}
-use borrow.Author.Tests.{leb-true, leb-false, le-leb, lt-leb, eqb-false, not-false}
-use lib.Dec.{ltb, leb, eqb}
+use borrow.Author.Tests.{leb-true, leb-false, le-leb, lt-leb, not-false}
+use lib.Dec.{leb}
 use Rattle.records.specs.declared.band.QoSClass.{QoSClass}
 use Rattle.records.specs.declared.error.SchedError.the-variants.{NoSuchTask}
 use Rattle.records.specs.declared.ids.Slot.{Slot}
@@ -20,18 +20,17 @@ use Rattle.records.proofs.Cases.{split, by-if, neither}
 use Rattle.queue.specs.Rules.{full}
 use Rattle.scheduler.specs.declared.call.Call.{Call}
 use Rattle.scheduler.specs.declared.call.Call.the-variants.{Create, Affinity, Terminate, Block, Wake, Enqueue, Schedule, Tick, Yield, Handoff, Plan, CanRunOnCore, TaskIndexForTid, Task, CurrentTaskOnCpu, SystemTicksUs, Holder}
-use Rattle.scheduler.specs.declared.answer.CoreOption.the-variants as core
 use Rattle.scheduler.specs.declared.answer.PickOption.{PickOption}
 use Rattle.scheduler.specs.declared.answer.PickOption.the-variants as pick
 use Rattle.scheduler.specs.State.{State, task, queue, holderOf}
 use Rattle.scheduler.specs.Accepted.{MayHold}
 use Rattle.scheduler.specs.Outcome.{Outcome, Chosen, refused, andThen}
 use Rattle.scheduler.specs.Picking.{ruleP, schedule}
-use Rattle.scheduler.specs.Waking.{freeSlot, create, affinity, terminate, missing, block, enqueued, enqueue, coreHolding, wake}
+use Rattle.scheduler.specs.Waking.{freeSlot, create, affinity, terminate, missing, block, enqueued, enqueue, isHeld, wake}
 use Rattle.scheduler.specs.Ticking.{answerPlan, gain, cleared, waitsBefore, charged, sliceOver, requeued, keepsOn, tickHolder, ticked, tick, yieldHolder, yield, handoffIn, handoffHolder, handoff, planned}
 use Rattle.scheduler.specs.Step.{step}
 use Rattle.scheduler.specs.Took.{Reach, unreached, reaches, below, outOfSlice, tickReach, yieldReach, handoffReach, reach}
-use Rattle.scheduler.specs.Stretch.{named, touches}
+use Rattle.scheduler.specs.Stretch.{changes, names, concern}
 use Rattle.scheduler.proofs.Effects.{present, idle-in, holder-is, enqueue-done, creates, sets-mask, blocks, wakes-holder, consumes, clears, terminates, yields, slice-ends}
 use Rattle.scheduler.proofs.Invariant.{Invariant, used-in-table}
 use Rattle.scheduler.proofs.Moves.{Harmless, stay, then, to-tail, time}
@@ -39,12 +38,12 @@ use Rattle.scheduler.proofs.Picks.{P-past}
 
 -- slots that a call neither blocks nor terminates nor sets the mask of
 abbrev pub Untouched : Call → ℕ → Type 0
-Untouched call x = touches x call ≡ false
+Untouched call x = concern call ≡ changes x → ⊥
 
 -- from s, with this pick, to this end
 pub data Course (call : Call) (s : State) (p : PickOption) (end : State) : Reach → Type 0 where
   quiet : p ≡ pick.None → Harmless (Untouched call) s end → Course call s p end unreached
-  reaching : (t : State) (c : ℕ) → c < 64 → named call ≡ core.Some c → Harmless (Untouched call) s t → p ≡ ruleP c t .pick → end ≡ ruleP c t .state → Course call s p end (reaches t c)
+  reaching : (t : State) (c : ℕ) → c < 64 → concern call ≡ names c → Harmless (Untouched call) s t → p ≡ ruleP c t .pick → end ≡ ruleP c t .state → Course call s p end (reaches t c)
 
 abbrev CourseOf : Call → State → Outcome → Reach → Type 0
 CourseOf call s o r = Course call s (o .answer .pick) (o .state) r
@@ -59,13 +58,13 @@ unmoved call s k = quiet refl (stay s k)
 -- from a state that a change has led to
 after : {call : Call} {p : PickOption} {end : State} {r : Reach} (s t : State) → Harmless (Untouched call) s t → Course call t p end r → Course call s p end r
 after s t f (quiet nobody-picked g) = quiet nobody-picked (then s t _ f g)
-after s t f (reaching u c low names g p-is end-is) = reaching u c low names (then s t u f g) p-is end-is
+after s t f (reaching u c low on-it g p-is end-is) = reaching u c low on-it (then s t u f g) p-is end-is
 
 -- ---- calls on slots
 
 -- a call that touches i leaves alone whom it does not touch
-apart : (i x : ℕ) → eqb i x ≡ false → x ≡ i → ⊥
-apart i x other same = eqb-false i x other (sym same)
+apart : (i x : ℕ) → (changes i ≡ changes x → ⊥) → x ≡ i → ⊥
+apart i x other same = other (ap changes (sym same))
 
 module _ (s : State) (k : Invariant s) where
   create-course : (tid : Tid) (band : QoSClass) (context cr3 rsp0 : ℕ) → CourseOf (Create tid band context cr3 rsp0) s (create tid band context cr3 rsp0 s) unreached
@@ -114,21 +113,21 @@ module _ (s : State) (k : Invariant s) where
       let is-blocked : Bool = isState (task s (i .0) .state) Blocked in
       by-if Ends (missing s (i .0)) (λ _. unmoved (Wake i) s k) (λ here.
       by-if Ends (not is-blocked) (λ _. unmoved (Wake i) s k) (λ was.
-      by-if Ends (ltb (coreHolding s (i .0)) 64)
+      by-if Ends (isHeld s (i .0))
       (λ _. quiet refl (wakes-holder s k (i .0) (present s (i .0) here .0) (present s (i .0) here .1) (not-false is-blocked was)))
       (λ _. enqueue-course (Wake i) (i .0))))
 
 -- ---- calls on cores below 64
 
-module _ (s : State) (k : Invariant s) (call : Call) (c : ℕ) (low : c < 64) (names : named call ≡ core.Some c) where
+module _ (s : State) (k : Invariant s) (call : Call) (c : ℕ) (low : c < 64) (on-it : concern call ≡ names c) where
   to-P : (t : State) → Harmless (Untouched call) s t → ChosenOf call s (ruleP c t) (reaches t c)
-  to-P t f = reaching t c low names f refl refl
+  to-P t f = reaching t c low on-it f refl refl
 
   -- the slice is over, and the rule's enqueue leads where the paper says
   over-course : (i : ℕ) → MayHold (task s i) → ChosenOf call s (ruleP c (requeued i s)) (reaches (outOfSlice i s) c)
   over-course i may =
       let ends : Harmless (Untouched call) s (outOfSlice i s) × (requeued i s ≡ outOfSlice i s) = slice-ends s k i (may .used) in
-      reaching (outOfSlice i s) c low names (ends .0) (ap (λ (t : State). ruleP c t .pick) (ends .1)) (ap (λ (t : State). ruleP c t .state) (ends .1))
+      reaching (outOfSlice i s) c low on-it (ends .0) (ap (λ (t : State). ruleP c t .pick) (ends .1)) (ap (λ (t : State). ruleP c t .state) (ends .1))
 
   -- the holder stays: its consumed time is still below its slice
   keep-course : (h : Slot) (elapsed : ℕ) → MayHold (task s (h .0)) → sliceOver (h .0) elapsed c s ≡ false → ChosenOf call s (keepsOn h elapsed s) unreached
@@ -188,12 +187,12 @@ module _ (s : State) (k : Invariant s) (c : ℕ) where
   schedule-course = on-core c (λ past. rw (P-past s c past) (unmoved (Schedule c) s k)) (λ low. to-P s k (Schedule c) c low refl s (stay s k))
 
   -- the tick, in the tick call and in the plan call
-  ticked-course : (call : Call) (elapsed : ℕ) → named call ≡ core.Some c → c < 64 → ChosenOf call s (ticked c elapsed s) (tickReach (holderOf s c) c elapsed (gain elapsed s))
+  ticked-course : (call : Call) (elapsed : ℕ) → concern call ≡ names c → c < 64 → ChosenOf call s (ticked c elapsed s) (tickReach (holderOf s c) c elapsed (gain elapsed s))
   unfolding ticked
-  ticked-course call elapsed names low =
+  ticked-course call elapsed on-it low =
       let t : State = gain elapsed s in
       let counted : Harmless (Untouched call) s t = time s k (t .micros) in
-      rw (lt-leb 64 c low) (after s t counted (tick-course t (counted .invariant) call c low names elapsed (holderOf s c) refl))
+      rw (lt-leb 64 c low) (after s t counted (tick-course t (counted .invariant) call c low on-it elapsed (holderOf s c) refl))
 
   tick-course-of : (elapsed : ℕ) → CourseOf (Tick c elapsed) s (tick c elapsed s) (below c (tickReach (holderOf s c) c elapsed (gain elapsed s)))
   unfolding tick ticked

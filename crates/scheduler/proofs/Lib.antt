@@ -11,6 +11,6 @@ pub mod Accepts
 pub mod Calls
 pub mod Refusals
 pub mod Waiting
-pub mod Pins
+pub mod Stretches
 pub mod Worked
 pub mod KCases

@@ -26,10 +26,10 @@ use Rattle.queue.proofs.Rules.{entryAt-some, entryAt-none, takenAt-cut}
 use Rattle.scheduler.specs.declared.answer.Pick.{Pick}
 use Rattle.scheduler.specs.declared.answer.PickOption.{PickOption}
 use Rattle.scheduler.specs.declared.answer.PickOption.the-variants as pick
-use Rattle.scheduler.specs.State.{State, nobody, bandOrder, task, withBand, queue, withTask, withQueue}
+use Rattle.scheduler.specs.State.{State, nobody, bandOrder, task, withBand, queue, withTask}
 use Rattle.scheduler.specs.Accepted.{ReadyOf, MayHold}
 use Rattle.scheduler.specs.Outcome.{Chosen}
-use Rattle.scheduler.specs.Picking.{permitted, placeFor, firstPermitted, foundIn, choice, afterPick, noChoice, ruleP}
+use Rattle.scheduler.specs.Picking.{permitted, placeFor, firstPermitted, foundIn, choice, leaves, afterPick, noChoice, ruleP}
 use Rattle.scheduler.specs.Stretch.{before}
 use Rattle.scheduler.proofs.Invariant.{Invariant, due-small, due-not, entry-ready, ready-in-table}
 use Rattle.scheduler.proofs.Lists.{Cut, cut, firstPlace-found, passed}
@@ -126,7 +126,7 @@ module _ (s : State) (k : Invariant s) (core : ℕ) (p : Pick) (is : firstPermit
       subst (λ (l : List ℕ). Sublistᴰ (i ∷ before x rest) (before x l)) (sym (c .whole))
       (subst (λ (l : List ℕ). Sublistᴰ l (before x (f ++ c .entry ∷ t))) (λ j. entry-is j ∷ before x (sym rest-is j)) around)
 
-  pub pick-harmless : Harmless (λ (x : ℕ). (x ≡ i → ⊥) × (permitted s core x ≡ true)) s (withTask (withQueue s (p .band) rest) i (picked (task s i)))
+  pub pick-harmless : Harmless (λ (x : ℕ). (x ≡ i → ⊥) × (permitted s core x ≡ true)) s (withTask (leaves s core (p .band)) i (picked (task s i)))
   pick-harmless = move s k i (picked (task s i)) (withBand (s .queues) (p .band) rest) (record {
     low = low;
     good = record { in-use = used; mask = k .good i .mask; budget = inr refl; consumed = slice-positive (task s i .qos) };
@@ -148,7 +148,7 @@ module _ (s : State) (k : Invariant s) (core : ℕ) (p : Pick) (is : firstPermit
   -- the pick becomes the core's holder
   pub pick-held : core < 64 → Harmless (λ (x : ℕ). (x ≡ i → ⊥) × (permitted s core x ≡ true)) s (afterPick s core (pick.Some p) .state)
   pick-held below =
-      let t : State = withTask (withQueue s (p .band) rest) i (picked (task s i)) in
+      let t : State = withTask (leaves s core (p .band)) i (picked (task s i)) in
       let stored : task t i ≡ picked (task s i) = getD-set-same (s .tasks) i (picked (task s i)) emptyRecord (omega (arith, k .slots, low)) in
       then s t (afterPick s core (pick.Some p) .state) pick-harmless
       (hold t (pick-harmless .invariant) core i below (inr (subst MayHold (sym stored) (record { used = used; armed = refl }))))

@@ -4,7 +4,7 @@ use mathlib.Core.Path.{_≡_, refl, sym, ap, _∙_}
 use mathlib.Core.Bool.{true, false, not, true≢false}
 use Prim.Native.Nat.{ℕ}
 use native.Mathlib.Omega.{arith}
-use lib.Dec.{ltb, leb}
+use lib.Dec.{leb}
 use Rattle.records.specs.declared.error.SchedError.{SchedError}
 use Rattle.records.specs.declared.error.SchedError.the-variants.{TableFull, QueueFull, NoSuchTask, AlreadyReady, AlreadyBlocked, NotBlocked}
 use Rattle.records.specs.declared.ids.SlotOption.{SlotOption}
@@ -23,7 +23,7 @@ use Rattle.scheduler.specs.State.{State, task, queue, holderOf}
 use Rattle.scheduler.specs.Accepted.{Accepted}
 use Rattle.scheduler.specs.Outcome.{Outcome, refused, goOn, andThen}
 use Rattle.scheduler.specs.Picking.{schedule}
-use Rattle.scheduler.specs.Waking.{freeSlot, create, affinity, terminate, missing, block, enqueue, coreHolding, wake}
+use Rattle.scheduler.specs.Waking.{freeSlot, create, affinity, terminate, missing, block, enqueue, isHeld, wake}
 use Rattle.scheduler.specs.Ticking.{tick, yieldHolder, yield, handoffIn, handoffHolder, handoff, planned}
 use Rattle.scheduler.specs.Step.{step}
 use Rattle.scheduler.proofs.Calls.{room-in-queue}
@@ -59,7 +59,7 @@ module _ (may : SchedError → Type 0) (s : State) (m : May may s) where
   wake-ends i =
       by-if (Ending may s) (missing s i) (λ _. no-task) (λ _.
       by-if (Ending may s) (not (isState (task s i .state) Blocked)) (λ _. refuse NotBlocked (λ n. omega arith)) (λ _.
-      by-if (Ending may s) (ltb (coreHolding s i) 64) (λ _. did refl) (λ _. enqueue-ends i)))
+      by-if (Ending may s) (isHeld s i) (λ _. did refl) (λ _. enqueue-ends i)))
 
   block-ends : (i : ℕ) → Ending may s (block i s)
   unfolding block

@@ -6,19 +6,17 @@ use mathlib.Core.List.{List, [], _∷_, _++_, Sublistᴰ, Sublistᴰ·cons-cons,
 use mathlib.Core.Logic.{_⊎_, inl, inr}
 use Prim.Native.Nat.{ℕ, _≤_, _<_}
 use native.Mathlib.Omega.{arith}
-use borrow.Author.Tests.{lt-ltb, leb-true, leb-false, eqb-true, eqb-false}
+use borrow.Author.Tests.{lt-ltb, leb-true, leb-false, eqb-true, eqb-false, eq-eqb}
 use lib.Dec.{ltb, leb, eqb}
 use Rattle.records.specs.declared.band.QoSClass.{QoSClass}
 use Rattle.records.specs.declared.state.ThreadState.the-variants.{Ready}
 use Rattle.records.specs.Band.{bandCode}
 use Rattle.records.specs.Mask.{permits}
 use Rattle.records.proofs.Bands.{bandCode-one}
-use Rattle.records.proofs.Cases.{split, neither}
+use Rattle.records.proofs.Cases.{split}
 use Rattle.queue.specs.Rules.{count, takenAt}
 use Rattle.queue.proofs.Counts.{count-append}
 use Rattle.scheduler.specs.declared.call.Call.{Call}
-use Rattle.scheduler.specs.declared.call.Call.the-variants.{Schedule}
-use Rattle.scheduler.specs.declared.answer.CoreOption.the-variants as core
 use Rattle.scheduler.specs.declared.answer.Pick.{Pick}
 use Rattle.scheduler.specs.declared.answer.PickOption.{PickOption}
 use Rattle.scheduler.specs.declared.answer.PickOption.the-variants as pick
@@ -27,7 +25,7 @@ use Rattle.scheduler.specs.Accepted.{Accepted}
 use Rattle.scheduler.specs.Picking.{permitted, placeFor, afterPick, ruleP, schedule}
 use Rattle.scheduler.specs.Step.{step, run}
 use Rattle.scheduler.specs.Took.{Reach}
-use Rattle.scheduler.specs.Stretch.{Event, events, named, touches, forbids, breaks, isPick, picks, stretch, stretchOf, othersIn, others, before, ahead}
+use Rattle.scheduler.specs.Stretch.{Event, events, Concern, changes, names, concern, breaksFor, breaks, isPick, picks, stretch, stretchOf, othersIn, others, before, ahead}
 use Rattle.scheduler.specs.Demand3.{Each, SchedulePicks, NotBehind, Point, Claim}
 use Rattle.scheduler.proofs.Calls.{new-accepted, call-invariant, run-invariant}
 use Rattle.scheduler.proofs.Course.{Course, quiet, reaching, course}
@@ -70,9 +68,9 @@ module _ (s : State) (k : Invariant s) (x : ℕ) (ready : task s x .state ≡ Re
   abbrev mine : QoSClass
   mine = task s x .qos
 
-  turn-pick : {o : PickOption} → Choice s c o → Turn x s (afterPick s c o .pick) (afterPick s c o .state) × (afterPick s c o .pick ≡ pick.None → ⊥)
+  turn-pick : {o : PickOption} → Choice s c o → Turn x s (afterPick s c o .pick) (afterPick s c o .state) × ((p : Pick) × (afterPick s c o .pick ≡ pick.Some p))
   turn-pick (none empty) = absurd (not-overlooked s c mine x may (in-queue s k x ready) (empty mine))
-  turn-pick (taken p is earlier) = (record { bands = λ q e. let same : p ≡ q = cc in subst (λ (r : Pick). bandCode (r .band) ≤ bandCode mine) same not-behind; goes = goes-on }, λ e. no-pick (sym e))
+  turn-pick (taken p is earlier) = (record { bands = λ q e. let same : p ≡ q = cc in subst (λ (r : Pick). bandCode (r .band) ≤ bandCode mine) same not-behind; goes = goes-on }, (p, refl))
     where
       i : ℕ
       i = p .slot .0
@@ -110,36 +108,46 @@ module _ (s : State) (k : Invariant s) (x : ℕ) (ready : task s x .state ≡ Re
                 (λ _. calm .order));
           }))
 
-  turn-P : Turn x s (ruleP c s .pick) (ruleP c s .state) × (ruleP c s .pick ≡ pick.None → ⊥)
+  turn-P : Turn x s (ruleP c s .pick) (ruleP c s .state) × ((p : Pick) × (ruleP c s .pick ≡ pick.Some p))
   turn-P = rw (P-below s c low) (turn-pick (choice-is s c))
 
 -- ---- one call of a stretch
 
--- a core that the call names and X's conditions allow is one that X may use
-allowed : (mask c : ℕ) → c < 64 → forbids mask (core.Some c) ≡ false → permits mask c ≡ true
-allowed mask c low fine =
+-- what it means for X that a call does not break its conditions
+left-alone : (x mask : ℕ) (k : Concern) → breaksFor x mask k ≡ false → k ≡ changes x → ⊥
+left-alone x mask k unbroken is = true≢false (sym (eq-eqb x x refl) ∙ ap (breaksFor x mask) (sym is) ∙ unbroken)
+
+may-use : (x mask : ℕ) (k : Concern) (c : ℕ) → breaksFor x mask k ≡ false → k ≡ names c → c < 64 → permits mask c ≡ true
+may-use x mask k c unbroken is low =
     split (λ (b : Bool). ltb c 64 && not b ≡ false → b ≡ true) (permits mask c)
     (λ _ _. refl)
     (λ _ e. absurd (true≢false (ap (λ (b : Bool). b && true) (sym (lt-ltb c 64 low)) ∙ e)))
-    fine
+    (ap (breaksFor x mask) (sym is) ∙ unbroken)
 
-module _ (s : State) (k : Invariant s) (x : ℕ) (ready : task s x .state ≡ Ready) (call : Call) (left-alone : touches x call ≡ false) (may-use : forbids (task s x .«cpu_affinity») (named call) ≡ false) where
+module _ (s : State) (k : Invariant s) (x : ℕ) (ready : task s x .state ≡ Ready) (call : Call) (unbroken : breaksFor x (task s x .«cpu_affinity») (concern call) ≡ false) where
+  abbrev mask : ℕ
+  mask = task s x .«cpu_affinity»
+
+  alone : concern call ≡ changes x → ⊥
+  alone = left-alone x mask (concern call) unbroken
+
   turn-course : {o : PickOption} {t : State} {r : Reach} → Course call s o t r → Turn x s o t
-  turn-course {o} {t} (quiet nobody-picked f) = subst (λ (q : PickOption). Turn x s q t) (sym nobody-picked) (turn-quiet x s t (f .undisturbed x left-alone ready))
-  turn-course {o} {t} (reaching u c low names f p-is end-is) =
-      let calm : Undisturbed x s u = f .undisturbed x left-alone ready in
-      let may : permits (task u x .«cpu_affinity») c ≡ true = ap (λ (m : ℕ). permits m c) (calm .alike .mask) ∙ allowed (task s x .«cpu_affinity») c low (ap (forbids (task s x .«cpu_affinity»)) (sym names) ∙ may-use) in
-      subst (λ (q : PickOption). Turn x s q t) (sym p-is) (subst (λ (v : State). Turn x s (ruleP c u .pick) v) (sym end-is)
-      (turn-after x s u (ruleP c u .state) (ruleP c u .pick) calm (turn-P u (f .invariant) x (calm .alike .state ∙ ready) c low may .0)))
+  turn-course {o} {t} (quiet nobody-picked f) = subst (λ (q : PickOption). Turn x s q t) (sym nobody-picked) (turn-quiet x s t (f .undisturbed x alone ready))
+  turn-course {o} {t} (reaching u c low on-it f p-is end-is) =
+      let calm : Undisturbed x s u = f .undisturbed x alone ready in
+      let may : permitted u c x ≡ true = ap (λ (m : ℕ). permits m c) (calm .alike .mask) ∙ may-use x mask (concern call) c unbroken on-it low in
+      let by-P : Turn x u (ruleP c u .pick) (ruleP c u .state) = turn-P u (f .invariant) x (calm .alike .state ∙ ready) c low may .0 in
+      let whole : Turn x s (ruleP c u .pick) (ruleP c u .state) = turn-after x s u (ruleP c u .state) (ruleP c u .pick) calm by-P in
+      subst (λ (q : PickOption). Turn x s q t) (sym p-is) (subst (λ (v : State). Turn x s (ruleP c u .pick) v) (sym end-is) whole)
 
   turn : Turn x s (step call s .answer .pick) (step call s .state)
   turn = turn-course (course call s k)
 
-  schedule-picks : (c : ℕ) → call ≡ Schedule c → c < 64 → step call s .answer .pick ≡ pick.None → ⊥
+  schedule-picks : SchedulePicks (record { call = call; found = s; answer = step call s .answer })
   unfolding schedule
-  schedule-picks c is low e =
-      let may : permitted s c x ≡ true = allowed (task s x .«cpu_affinity») c low (ap (λ (q : Call). forbids (task s x .«cpu_affinity») (named q)) (sym is) ∙ may-use) in
-      turn-P s k x ready c low may .1 (ap (λ (q : Call). step q s .answer .pick) (sym is) ∙ e)
+  schedule-picks c is low =
+      let found : (p : Pick) × (ruleP c s .pick ≡ pick.Some p) = turn-P s k x ready c low (may-use x mask (concern call) c unbroken (ap concern is) low) .1 in
+      (found .0, ap (λ (q : Call). step q s .answer .pick) is ∙ found .1)
 
 -- ---- the stretch
 
@@ -197,9 +205,8 @@ bound (call ∷ next) s k x ready =
     split (λ (b : Bool). Holds (cond b [] (e ∷ cond (picks x e) [] (stretchOf x t next)))) (breaks x e)
     (λ _. no-calls band x (ahead s x))
     (λ unbroken.
-    let parts : (touches x call ≡ false) × (forbids (task s x .«cpu_affinity») (named call) ≡ false) = neither (touches x call) _ unbroken in
-    let here : Turn x s o t = turn s k x ready call (parts .0) (parts .1) in
-    let picks-so : SchedulePicks e = schedule-picks s k x ready call (parts .0) (parts .1) in
+    let here : Turn x s o t = turn s k x ready call unbroken in
+    let picks-so : SchedulePicks e = schedule-picks s k x ready call unbroken in
     split (λ (b : Bool). Holds (e ∷ cond b [] (stretchOf x t next))) (picks x e)
     (λ own. record { schedules = (picks-so, tt); bands = (here .bands, tt); in-order = rw (others-own band x o [] own) (Sublistᴰ·nil-sublist (ahead s x)) })
     (λ not-x. waits-on x s t e (stretchOf x t next) ready picks-so here (not-picked here not-x) (λ still. bound next t (call-invariant call s k) x still)))

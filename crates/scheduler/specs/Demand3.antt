@@ -23,7 +23,7 @@ Each P (a ∷ rest) = P a × Each P rest
 
 -- a schedule on a core below 64 picks
 abbrev pub SchedulePicks : Event → Type 0
-SchedulePicks e = (c : ℕ) → e .call ≡ Schedule c → c < 64 → e .answer .pick ≡ pick.None → ⊥
+SchedulePicks e = (core : ℕ) → e .call ≡ Schedule core → core < 64 → (p : Pick) × (e .answer .pick ≡ pick.Some p)
 
 -- the pick, if there is one, is not from a band behind this one
 abbrev pub NotBehind : QoSClass → Event → Type 0

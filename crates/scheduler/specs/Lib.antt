@@ -11,4 +11,4 @@ pub mod Took
 pub mod Paper
 pub mod Stretch
 pub mod Demand3
-pub mod Pins
+pub mod Longest

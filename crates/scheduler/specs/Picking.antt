@@ -40,14 +40,17 @@ unfoldable pub choice : State → ℕ → List QoSClass → PickOption
 choice s core [] = pick.None
 choice s core (band ∷ bands) = foundIn band (firstPermitted s core band) (choice s core bands)
 
--- "Entries before it move to that queue's tail in their order and it leaves. It becomes Running, budget its slice, consumed 0, holder of
--- c. If no queue has one, holder c becomes none and all queues keep their order."
+-- "Entries before it move to that queue's tail in their order and it leaves."
+abbrev pub leaves : State → ℕ → QoSClass → State
+leaves s core band = withQueue s band (takenAt (placeFor s core band) (queue s band))
+
+-- "It becomes Running, budget its slice, consumed 0, holder of c."
+abbrev pub runsOn : State → ℕ → ℕ → State
+runsOn s core slot = withHolder (withTask s slot (picked (task s slot))) core slot
+
+-- "If no queue has one, holder c becomes none and all queues keep their order."
 abbrev pub afterPick : State → ℕ → PickOption → Chosen
-afterPick s core (pick.Some p) = record {
-  next = slot.Some (p .slot);
-  pick = pick.Some p;
-  state = withHolder (withTask (withQueue s (p .band) (takenAt (placeFor s core (p .band)) (queue s (p .band)))) (p .slot .0) (picked (task s (p .slot .0)))) core (p .slot .0);
-}
+afterPick s core (pick.Some p) = record { next = slot.Some (p .slot); pick = pick.Some p; state = runsOn (leaves s core (p .band)) core (p .slot .0) }
 afterPick s core pick.None = record { next = slot.None; pick = pick.None; state = withHolder s core nobody }
 
 -- nobody is chosen, nothing changed
@@ -58,9 +61,10 @@ noChoice s = record { next = slot.None; pick = pick.None; state = s }
 unfoldable pub ruleP : ℕ → State → Chosen
 ruleP core s = cond (leb 64 core) (noChoice s) (afterPick s core (choice s core bandOrder))
 
--- 06 schedule
+-- who is to run is the answer
 abbrev pub answerSlot : Chosen → Outcome
 answerSlot c = chosenAs (value.Slot (c .next)) c
 
+-- 06 schedule
 unfoldable pub schedule : ℕ → State → Outcome
 schedule core s = answerSlot (ruleP core s)

@@ -1,6 +1,6 @@
 -- X's stretch, from demand 3 and document 01's paragraph on its list: the list call by call, which calls end the stretch, its picks, and the
 -- entries before X. Everything here computes.
-use mathlib.Core.Bool.{Bool, false, cond, not, _&&_, _||_}
+use mathlib.Core.Bool.{Bool, false, cond, not, _&&_}
 use mathlib.Core.List.{List, [], _∷_}
 use Prim.Native.Nat.{ℕ}
 use lib.Dec.{ltb, eqb}
@@ -10,8 +10,6 @@ use Rattle.records.specs.Mask.{permits}
 use Rattle.scheduler.specs.declared.call.Call.{Call}
 use Rattle.scheduler.specs.declared.call.Call.the-variants.{Create, Affinity, Terminate, Block, Wake, Enqueue, Schedule, Tick, Yield, Handoff, Plan, CanRunOnCore, TaskIndexForTid, Task, CurrentTaskOnCpu, SystemTicksUs, Holder}
 use Rattle.scheduler.specs.declared.answer.Answer.{Answer}
-use Rattle.scheduler.specs.declared.answer.CoreOption.{CoreOption}
-use Rattle.scheduler.specs.declared.answer.CoreOption.the-variants as core
 use Rattle.scheduler.specs.declared.answer.PickOption.{PickOption}
 use Rattle.scheduler.specs.declared.answer.PickOption.the-variants as pick
 use Rattle.scheduler.specs.State.{State, task, queue}
@@ -31,54 +29,42 @@ events (call ∷ calls) s = record { call = call; found = s; answer = step call 
 
 -- ---- X's stretch
 
--- the core that a call names: its argument, whether or not the call is refused; queries are none of the eleven calls
-abbrev pub named : Call → CoreOption
-named (Schedule c) = core.Some c
-named (Tick c elapsed) = core.Some c
-named (Yield c) = core.Some c
-named (Handoff c) = core.Some c
-named (Plan c elapsed) = core.Some c
-named (Create tid band context cr3 rsp0) = core.None
-named (Affinity slot mask) = core.None
-named (Terminate slot) = core.None
-named (Block slot) = core.None
-named (Wake slot) = core.None
-named (Enqueue slot) = core.None
-named (CanRunOnCore slot c) = core.None
-named (TaskIndexForTid tid) = core.None
-named (Task slot) = core.None
-named (CurrentTaskOnCpu c) = core.None
-named SystemTicksUs = core.None
-named (Holder slot) = core.None
+-- what a call has to do with those who wait
+pub data Concern : Type 0 where
+  -- it "blocks or terminates" the slot, or "sets its mask"
+  changes : ℕ → Concern
+  -- it "names a core": its argument, whether or not the call is refused
+  names : ℕ → Concern
+  -- neither; a query is none of the eleven calls
+  nothing : Concern
 
--- "blocks or terminates X, sets its mask"
-abbrev pub touches : ℕ → Call → Bool
-touches x (Block slot) = eqb (slot .0) x
-touches x (Terminate slot) = eqb (slot .0) x
-touches x (Affinity slot mask) = eqb (slot .0) x
-touches x (Create tid band context cr3 rsp0) = false
-touches x (Wake slot) = false
-touches x (Enqueue slot) = false
-touches x (Schedule c) = false
-touches x (Tick c elapsed) = false
-touches x (Yield c) = false
-touches x (Handoff c) = false
-touches x (Plan c elapsed) = false
-touches x (CanRunOnCore slot c) = false
-touches x (TaskIndexForTid tid) = false
-touches x (Task slot) = false
-touches x (CurrentTaskOnCpu c) = false
-touches x SystemTicksUs = false
-touches x (Holder slot) = false
-
--- "a core below 64 that its mask forbids"
-abbrev pub forbids : ℕ → CoreOption → Bool
-forbids mask core.None = false
-forbids mask (core.Some c) = ltb c 64 && not (permits mask c)
+abbrev pub concern : Call → Concern
+concern (Create tid band context cr3 rsp0) = nothing
+concern (Affinity slot mask) = changes (slot .0)
+concern (Terminate slot) = changes (slot .0)
+concern (Block slot) = changes (slot .0)
+concern (Wake slot) = nothing
+concern (Enqueue slot) = nothing
+concern (Schedule core) = names core
+concern (Tick core elapsed) = names core
+concern (Yield core) = names core
+concern (Handoff core) = names core
+concern (Plan core elapsed) = names core
+concern (CanRunOnCore slot core) = nothing
+concern (TaskIndexForTid tid) = nothing
+concern (Task slot) = nothing
+concern (CurrentTaskOnCpu core) = nothing
+concern SystemTicksUs = nothing
+concern (Holder slot) = nothing
 
 -- the call breaks X's conditions: it "blocks or terminates X, sets its mask or names a core below 64 that its mask forbids"
+abbrev pub breaksFor : ℕ → ℕ → Concern → Bool
+breaksFor x mask (changes slot) = eqb slot x
+breaksFor x mask (names core) = ltb core 64 && not (permits mask core)
+breaksFor x mask nothing = false
+
 abbrev pub breaks : ℕ → Event → Bool
-breaks x e = touches x (e .call) || forbids (task (e .found) x .«cpu_affinity») (named (e .call))
+breaks x e = breaksFor x (task (e .found) x .«cpu_affinity») (concern (e .call))
 
 abbrev pub isPick : ℕ → PickOption → Bool
 isPick x pick.None = false

@@ -75,10 +75,14 @@ enqueue slot s =
 abbrev pub coreHolding : State → ℕ → ℕ
 coreHolding s slot = firstPlace (λ (h : ℕ). eqb h slot) (s .holders)
 
+-- "some core holds it"
+abbrev pub isHeld : State → ℕ → Bool
+isHeld s slot = ltb (coreHolding s slot) 64
+
 -- 04 wake: "if some core holds it, Running with no queue entry; else as enqueue"; 3, "then wake" 6
 unfoldable pub wake : ℕ → State → Outcome
 wake slot s =
     cond (missing s slot) (refused NoSuchTask s) (
     cond (not (isState (task s slot .state) Blocked)) (refused NotBlocked s) (
-    cond (ltb (coreHolding s slot) 64) (done value.Nothing (withTask s slot (withState (task s slot) Running))) (
+    cond (isHeld s slot) (done value.Nothing (withTask s slot (withState (task s slot) Running))) (
     enqueue slot s)))

@@ -1,5 +1,5 @@
 -- What a reader has to believe of X's stretch: which calls break X's conditions, that the stretch is as long as can be, and which calls are
--- queries. A shorter stretch would be a weaker claim; proofs/Pins.antt shows that it is not shorter.
+-- queries. A shorter stretch would be a weaker claim; proofs/Stretches.antt shows that it is not shorter.
 use mathlib.Core.Path.{_≡_}
 use mathlib.Core.Bool.{Bool, true, false}
 use mathlib.Core.List.{List, [], _∷_, _++_}
