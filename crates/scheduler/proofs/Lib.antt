@@ -7,6 +7,7 @@ mod Moves
 pub mod Picks
 mod Effects
 mod Course
+mod Turns
 pub mod Accepts
 pub mod Calls
 pub mod Refusals
