@@ -48,7 +48,8 @@ pub run-accepted : (calls : List Call) (s : State) → Accepted s → Accepted (
 run-accepted calls s a = invariant-accepted (run calls s) (run-invariant calls s (accepted-invariant s a))
 
 -- no slot to be queued finds 64 entries in a queue
-pub room-in-queue : (s : State) → Accepted s → (band : QoSClass) (slot : ℕ) → slot < 64 → isState (task s slot .state) Ready ≡ false → full (queue s band) ≡ false
+pub room-in-queue : (s : State) → Accepted s → (band : QoSClass) (slot : ℕ) → slot < 64 → isState (task s slot .state) Ready ≡ false →
+    full (queue s band) ≡ false
 room-in-queue s a = never-full s (accepted-invariant s a)
 
 -- ---- the pick carried is P's
@@ -57,7 +58,8 @@ carried-by : {call : Call} {s : State} {p : PickOption} {end : State} {r : Reach
 carried-by (quiet nobody-picked f) = nobody-picked
 carried-by (reaching t c low on-it f p-is end-is) = p-is
 
-ended-by : {call : Call} {s : State} {p : PickOption} {end : State} {r : Reach} → Course call s p end r → (t : State) (c : ℕ) → r ≡ reaches t c → end ≡ ruleP c t .state
+ended-by : {call : Call} {s : State} {p : PickOption} {end : State} {r : Reach} → Course call s p end r → (t : State) (c : ℕ) →
+    r ≡ reaches t c → end ≡ ruleP c t .state
 ended-by (quiet nobody-picked f) t c is = let no : _≡_ {A = ℕ} 0 1 = cc in absurd (omega arith)
 ended-by (reaching u d low on-it f p-is end-is) t c is =
     let from : u ≡ t = cc in

@@ -24,10 +24,10 @@ use Rattle.scheduler.specs.declared.answer.PickOption.{PickOption}
 use Rattle.scheduler.specs.declared.answer.PickOption.the-variants as pick
 use Rattle.scheduler.specs.State.{State, task, queue, holderOf}
 use Rattle.scheduler.specs.Accepted.{MayHold}
-use Rattle.scheduler.specs.Outcome.{Outcome, Chosen, refused, andThen}
+use Rattle.scheduler.specs.Outcome.{Outcome, Chosen, refused}
 use Rattle.scheduler.specs.Picking.{ruleP, schedule}
 use Rattle.scheduler.specs.Waking.{freeSlot, create, affinity, terminate, missing, block, enqueued, enqueue, isHeld, wake}
-use Rattle.scheduler.specs.Ticking.{answerPlan, gain, cleared, waitsBefore, charged, sliceOver, requeued, keepsOn, tickHolder, ticked, tick, yieldHolder, yield, handoffIn, handoffHolder, handoff, planned}
+use Rattle.scheduler.specs.Ticking.{givesWay, gain, cleared, waitsBefore, charged, sliceOver, requeued, keepsOn, tickHolder, ticked, tick, yieldHolder, yield, handoffIn, handoffHolder, handoff, planned}
 use Rattle.scheduler.specs.Step.{step}
 use Rattle.scheduler.specs.Took.{Reach, unreached, reaches, below, outOfSlice, tickReach, yieldReach, handoffReach, reach}
 use Rattle.scheduler.specs.Stretch.{changes, names, concern}
@@ -43,7 +43,8 @@ Untouched call x = concern call ≡ changes x → ⊥
 -- from s, with this pick, to this end
 pub data Course (call : Call) (s : State) (p : PickOption) (end : State) : Reach → Type 0 where
   quiet : p ≡ pick.None → Harmless (Untouched call) s end → Course call s p end unreached
-  reaching : (t : State) (c : ℕ) → c < 64 → concern call ≡ names c → Harmless (Untouched call) s t → p ≡ ruleP c t .pick → end ≡ ruleP c t .state → Course call s p end (reaches t c)
+  reaching : (t : State) (c : ℕ) → c < 64 → concern call ≡ names c → Harmless (Untouched call) s t → p ≡ ruleP c t .pick →
+      end ≡ ruleP c t .state → Course call s p end (reaches t c)
 
 abbrev CourseOf : Call → State → Outcome → Reach → Type 0
 CourseOf call s o r = Course call s (o .answer .pick) (o .state) r
@@ -56,7 +57,8 @@ unmoved : (call : Call) (s : State) → Invariant s → Course call s pick.None 
 unmoved call s k = quiet refl (stay s k)
 
 -- from a state that a change has led to
-after : {call : Call} {p : PickOption} {end : State} {r : Reach} (s t : State) → Harmless (Untouched call) s t → Course call t p end r → Course call s p end r
+after : {call : Call} {p : PickOption} {end : State} {r : Reach} (s t : State) → Harmless (Untouched call) s t → Course call t p end r →
+    Course call s p end r
 after s t f (quiet nobody-picked g) = quiet nobody-picked (then s t _ f g)
 after s t f (reaching u c low on-it g p-is end-is) = reaching u c low on-it (then s t u f g) p-is end-is
 
@@ -67,7 +69,8 @@ apart : (i x : ℕ) → (changes i ≡ changes x → ⊥) → x ≡ i → ⊥
 apart i x other same = other (ap changes (sym same))
 
 module _ (s : State) (k : Invariant s) where
-  create-course : (tid : Tid) (band : QoSClass) (context cr3 rsp0 : ℕ) → CourseOf (Create tid band context cr3 rsp0) s (create tid band context cr3 rsp0 s) unreached
+  create-course : (tid : Tid) (band : QoSClass) (context cr3 rsp0 : ℕ) →
+      CourseOf (Create tid band context cr3 rsp0) s (create tid band context cr3 rsp0 s) unreached
   unfolding create
   create-course tid band context cr3 rsp0 =
       by-if (λ (o : Outcome). CourseOf (Create tid band context cr3 rsp0) s o unreached) (leb 64 (freeSlot s))
@@ -130,7 +133,8 @@ module _ (s : State) (k : Invariant s) (call : Call) (c : ℕ) (low : c < 64) (o
       reaching (outOfSlice i s) c low on-it (ends .0) (ap (λ (t : State). ruleP c t .pick) (ends .1)) (ap (λ (t : State). ruleP c t .state) (ends .1))
 
   -- the holder stays: its consumed time is still below its slice
-  keep-course : (h : Slot) (elapsed : ℕ) → MayHold (task s (h .0)) → sliceOver (h .0) elapsed c s ≡ false → ChosenOf call s (keepsOn h elapsed s) unreached
+  keep-course : (h : Slot) (elapsed : ℕ) → MayHold (task s (h .0)) → sliceOver (h .0) elapsed c s ≡ false →
+      ChosenOf call s (keepsOn h elapsed s) unreached
   keep-course h elapsed may on =
       let budget : ℕ = task s (h .0) .«slice_budget_us» in
       let sum : ℕ = charged (h .0) elapsed s in
@@ -151,7 +155,8 @@ module _ (s : State) (k : Invariant s) (call : Call) (c : ℕ) (low : c < 64) (o
       (λ _. split (λ (b : Bool). ChosenOf call s (Over b) (OverReach b)) over (λ _. over-course i may) (λ on. keep-course h elapsed may on))
 
   -- a Running holder is queued without refusal
-  yield-running : (h : Slot) → holderOf s c ≡ slot.Some h → isState (task s (h .0) .state) Running ≡ true → CourseOf call s (andThen (enqueue (h .0) s) (λ t. answerPlan (slot.Some h) (ruleP c (cleared c t)))) (reaches (cleared c (enqueued (h .0) s)) c)
+  yield-running : (h : Slot) → holderOf s c ≡ slot.Some h → isState (task s (h .0) .state) Running ≡ true →
+      CourseOf call s (givesWay h c s) (reaches (cleared c (enqueued (h .0) s)) c)
   yield-running h is runs =
       let i : ℕ = h .0 in
       let used : task s i .«in_use» ≡ true = holder-is s k c h is .used in
@@ -161,7 +166,8 @@ module _ (s : State) (k : Invariant s) (call : Call) (c : ℕ) (low : c < 64) (o
   yield-course : (h : SlotOption) → holderOf s c ≡ h → CourseOf call s (yieldHolder h c s) (yieldReach h c s)
   yield-course slot.None is = to-P s (stay s k)
   yield-course (slot.Some h) is =
-      split (λ (b : Bool). CourseOf call s (cond (not b) (refused NoSuchTask s) (andThen (enqueue (h .0) s) (λ t. answerPlan (slot.Some h) (ruleP c (cleared c t))))) (cond b (reaches (cleared c (enqueued (h .0) s)) c) unreached)) (isState (task s (h .0) .state) Running)
+      let away : Reach = reaches (cleared c (enqueued (h .0) s)) c in
+      split (λ (b : Bool). CourseOf call s (cond (not b) (refused NoSuchTask s) (givesWay h c s)) (cond b away unreached)) (isState (task s (h .0) .state) Running)
       (λ runs. yield-running h is runs)
       (λ _. unmoved call s k)
 
@@ -178,7 +184,8 @@ module _ (s : State) (k : Invariant s) (call : Call) (c : ℕ) (low : c < 64) (o
 -- ---- calls on any core
 
 -- below 64 a call may come to P; above it does not
-on-core : {call : Call} {s : State} {p : PickOption} {end : State} {r : Reach} (c : ℕ) → (64 ≤ c → Course call s p end unreached) → (c < 64 → Course call s p end r) → Course call s p end (below c r)
+on-core : {call : Call} {s : State} {p : PickOption} {end : State} {r : Reach} (c : ℕ) → (64 ≤ c → Course call s p end unreached) →
+    (c < 64 → Course call s p end r) → Course call s p end (below c r)
 on-core {call} {s} {p} {end} {r} c past there = by-if (Course call s p end) (leb 64 c) (λ high. past (leb-true 64 c high)) (λ low. there (leb-false 64 c low))
 
 module _ (s : State) (k : Invariant s) (c : ℕ) where
@@ -187,7 +194,8 @@ module _ (s : State) (k : Invariant s) (c : ℕ) where
   schedule-course = on-core c (λ past. rw (P-past s c past) (unmoved (Schedule c) s k)) (λ low. to-P s k (Schedule c) c low refl s (stay s k))
 
   -- the tick, in the tick call and in the plan call
-  ticked-course : (call : Call) (elapsed : ℕ) → concern call ≡ names c → c < 64 → ChosenOf call s (ticked c elapsed s) (tickReach (holderOf s c) c elapsed (gain elapsed s))
+  ticked-course : (call : Call) (elapsed : ℕ) → concern call ≡ names c → c < 64 →
+      ChosenOf call s (ticked c elapsed s) (tickReach (holderOf s c) c elapsed (gain elapsed s))
   unfolding ticked
   ticked-course call elapsed on-it low =
       let t : State = gain elapsed s in

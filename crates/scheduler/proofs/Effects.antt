@@ -57,7 +57,8 @@ free-idle t good free =
 
 module _ (s : State) (k : Invariant s) where
   -- a slot that waits is not one that does not
-  waits-elsewhere : {r : TaskControlBlock} (i : ℕ) → isState (task s i .state) Ready ≡ false → (x : ℕ) → task s x .state ≡ Ready → x ≡ i → Alike r (task s i)
+  waits-elsewhere : {r : TaskControlBlock} (i : ℕ) → isState (task s i .state) Ready ≡ false → (x : ℕ) → task s x .state ≡ Ready → x ≡ i →
+      Alike r (task s i)
   waits-elsewhere i idle x ready same = absurd (not-both (task s i .state) (ap (λ (j : ℕ). task s j .state) (sym same) ∙ ready) idle)
 
   free-is : freeSlot s < 64 → task s (freeSlot s) .«in_use» ≡ false
@@ -85,7 +86,8 @@ module _ (s : State) (k : Invariant s) where
       (λ some e. let same : _≡_ {A = Slot} (record { 0 = holder s c }) h = cc in subst (λ (j : Slot). MayHold (task s (j .0))) same (not-nobody c (k .held c) some))
 
   -- an enqueue of a slot in use that is not Ready is not refused
-  pub enqueue-done : (i : ℕ) → i < 64 → task s i .«in_use» ≡ true → isState (task s i .state) Ready ≡ false → enqueue i s ≡ done value.Nothing (enqueued i s)
+  pub enqueue-done : (i : ℕ) → i < 64 → task s i .«in_use» ≡ true → isState (task s i .state) Ready ≡ false →
+      enqueue i s ≡ done value.Nothing (enqueued i s)
   unfolding enqueue
   enqueue-done i low used idle = rw (lt-leb 64 i low) (rw used (rw idle (rw (never-full s k (task s i .qos) i low idle) refl)))
 
@@ -100,7 +102,8 @@ module _ (s : State) (k : Invariant s) where
 -- ---- one change
 
 module _ {safe : ℕ → Type 0} (s : State) (k : Invariant s) where
-  pub creates : (tid : Tid) (band : QoSClass) (context cr3 rsp0 : ℕ) → freeSlot s < 64 → Harmless safe s (withTask s (freeSlot s) (created tid band context cr3 rsp0))
+  pub creates : (tid : Tid) (band : QoSClass) (context cr3 rsp0 : ℕ) → freeSlot s < 64 →
+      Harmless safe s (withTask s (freeSlot s) (created tid band context cr3 rsp0))
   creates tid band context cr3 rsp0 low =
       let i : ℕ = freeSlot s in
       let idle : isState (task s i .state) Ready ≡ false = free-idle (task s i) (k .good i) (free-is s k low) in
@@ -118,7 +121,8 @@ module _ {safe : ℕ → Type 0} (s : State) (k : Invariant s) where
       (λ m. record { used = m .used; armed = m .armed })
       (λ x sx _ same. absurd (apart x sx same))
 
-  pub blocks : (i : ℕ) → i < 64 → task s i .«in_use» ≡ true → ((x : ℕ) → safe x → x ≡ i → ⊥) → Harmless safe s (withTask (outOfQueues i s) i (blocked (task s i)))
+  pub blocks : (i : ℕ) → i < 64 → task s i .«in_use» ≡ true → ((x : ℕ) → safe x → x ≡ i → ⊥) →
+      Harmless safe s (withTask (outOfQueues i s) i (blocked (task s i)))
   blocks i low used apart =
       out s k i (blocked (task s i)) low
       (record { in-use = used; mask = k .good i .mask; budget = k .good i .budget; consumed = slice-positive (task s i .qos) })
@@ -126,7 +130,8 @@ module _ {safe : ℕ → Type 0} (s : State) (k : Invariant s) where
       (λ c is. let m : MayHold (task s i) = holder-may s k c i low is in record { used = m .used; armed = m .armed })
       apart
 
-  pub wakes-holder : (i : ℕ) → i < 64 → task s i .«in_use» ≡ true → isState (task s i .state) Blocked ≡ true → Harmless safe s (withTask s i (withState (task s i) Running))
+  pub wakes-holder : (i : ℕ) → i < 64 → task s i .«in_use» ≡ true → isState (task s i .state) Blocked ≡ true →
+      Harmless safe s (withTask s i (withState (task s i) Running))
   wakes-holder i low used is =
       let idle : isState (task s i .state) Ready ≡ false = idle-in (task s i) Blocked is refl in
       put s k i (withState (task s i) Running) low

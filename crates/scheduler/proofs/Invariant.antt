@@ -71,7 +71,8 @@ pub empty-good : Good emptyRecord
 empty-good = record { in-use = refl; mask = λ e. omega arith; budget = inl refl; consumed = omega arith }
 
 -- what holds of the first n elements and of the default holds of all that can be read
-pub everywhere : {A : Type 0} (P : A → Type 0) (l : List A) (d : A) (n : ℕ) → length l ≡ n → P d → ((i : ℕ) → i < n → P (getD l i d)) → (i : ℕ) → P (getD l i d)
+pub everywhere : {A : Type 0} (P : A → Type 0) (l : List A) (d : A) (n : ℕ) → length l ≡ n → P d → ((i : ℕ) → i < n → P (getD l i d)) →
+    (i : ℕ) → P (getD l i d)
 everywhere P l d n whole out within i =
     split (λ _. P (getD l i d)) (ltb i n)
     (λ is. within i (ltb-true i n is))

@@ -1,17 +1,26 @@
--- Laws about the definitions of specs/.
+-- Laws about the definitions of specs/. What the rules promise:
+--
+--   KCases      K1 to K11, one table                      Accepts     the test of acceptance says what the conditions say
+--   Calls       every call keeps acceptance; a pick carried is P's; no queue is full for a slot to be queued
+--   Refusals    a refusal changes nothing; number 2 is never answered
+--   Picks       rule P                                    Waiting     demand 3
+--   Stretches   the stretch is as long as can be          Worked      one stretch, computed
+--
+-- How they are shown: Says pairs tests with facts, Lists and Parts are about lists and stores, Invariant is acceptance as the proofs carry it,
+-- Moves are the changes that calls are made of, Effects what each call does, Course every call followed once, Turns one call as X sees it.
+pub mod KCases
+pub mod Accepts
+pub mod Calls
+pub mod Refusals
+pub mod Picks
+pub mod Waiting
+pub mod Stretches
+pub mod Worked
 mod Says
 mod Lists
 mod Parts
 mod Invariant
 mod Moves
-pub mod Picks
 mod Effects
 mod Course
 mod Turns
-pub mod Accepts
-pub mod Calls
-pub mod Refusals
-pub mod Waiting
-pub mod Stretches
-pub mod Worked
-pub mod KCases

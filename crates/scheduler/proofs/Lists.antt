@@ -16,7 +16,8 @@ use Rattle.scheduler.specs.Stretch.{before}
 
 -- ---- the first place that passes
 
-pub firstPlace-passes : {A : Type 0} (test : A → Bool) (l : List A) (d : A) → firstPlace test l < length l → test (getD l (firstPlace test l) d) ≡ true
+pub firstPlace-passes : {A : Type 0} (test : A → Bool) (l : List A) (d : A) → firstPlace test l < length l →
+    test (getD l (firstPlace test l) d) ≡ true
 unfolding firstPlace
 firstPlace-passes test [] d = λ h. absurd (omega arith)
 firstPlace-passes test (a ∷ l) d =
@@ -167,7 +168,8 @@ before-without x y (e ∷ l) apart =
     (λ _. Sublistᴰ·cons-cons refl (before-without x y l apart)))
 
 -- e is taken, x stands behind it: those then before x are those who stood between the two, and e was before them
-pub passed : (x : ℕ) (f : List ℕ) (e : ℕ) (t : List ℕ) → count x f ≡ 0 → (e ≡ x → ⊥) → 1 ≤ count x (f ++ e ∷ t) → Sublistᴰ (e ∷ before x (t ++ f)) (before x (f ++ e ∷ t))
+pub passed : (x : ℕ) (f : List ℕ) (e : ℕ) (t : List ℕ) → count x f ≡ 0 → (e ≡ x → ⊥) → 1 ≤ count x (f ++ e ∷ t) →
+    Sublistᴰ (e ∷ before x (t ++ f)) (before x (f ++ e ∷ t))
 passed x f e t skipped apart h =
     let in-t : 1 ≤ count x t = omega (arith, count-append x f (e ∷ t), count-append x (e ∷ []) t, count-other x e (λ same. apart (sym same))) in
     let was : before x (f ++ e ∷ t) ≡ f ++ e ∷ before x t = before-past x f (e ∷ t) skipped ∙ ap (λ (r : List ℕ). f ++ r) (before-other x e t apart) in

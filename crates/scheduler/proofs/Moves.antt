@@ -73,13 +73,15 @@ pub record Change (safe : ℕ → Type 0) (s : State) (i : ℕ) (r : TaskControl
   pub may : (core : ℕ) → holder s core ≡ i → MayHold r
   -- a slot that waits and is to be left alone is not i, or does not notice; nobody comes before it
   pub alike : (x : ℕ) → safe x → task s x .state ≡ Ready → x ≡ i → Alike r (task s i)
-  pub order : (x : ℕ) → safe x → task s x .state ≡ Ready → (b : QoSClass) → 1 ≤ count x (queue s b) → Sublistᴰ (before x (ofBand q b)) (before x (queue s b))
+  pub order : (x : ℕ) → safe x → task s x .state ≡ Ready → (b : QoSClass) → 1 ≤ count x (queue s b) →
+      Sublistᴰ (before x (ofBand q b)) (before x (queue s b))
 
 -- a Ready slot stands in its band's queue
 pub in-queue : (s : State) → Invariant s → (x : ℕ) → task s x .state ≡ Ready → 1 ≤ count x (queue s (task s x .qos))
 in-queue s k x ready = omega (arith, k .queued (task s x .qos) x, due-ready (task s x .qos) (task s x) (record { ready = ready; of-band = refl }))
 
-pub move : {safe : ℕ → Type 0} (s : State) → Invariant s → (i : ℕ) (r : TaskControlBlock) (q : Queues) → Change safe s i r q → Harmless safe s (withTask (withQueues s q) i r)
+pub move : {safe : ℕ → Type 0} (s : State) → Invariant s → (i : ℕ) (r : TaskControlBlock) (q : Queues) → Change safe s i r q →
+    Harmless safe s (withTask (withQueues s q) i r)
 move s k i r q c =
     let low : i < length (s .tasks) = omega (arith, k .slots, c .low) in
     record {
@@ -98,7 +100,8 @@ move s k i r q c =
       };
     }
   where
-    held-still : i < length (s .tasks) → (core : ℕ) → (holder s core ≡ nobody) ⊎ MayHold (task s (holder s core)) → (holder s core ≡ nobody) ⊎ MayHold (getD (set (s .tasks) i r) (holder s core) emptyRecord)
+    held-still : i < length (s .tasks) → (core : ℕ) → (holder s core ≡ nobody) ⊎ MayHold (task s (holder s core)) →
+        (holder s core ≡ nobody) ⊎ MayHold (getD (set (s .tasks) i r) (holder s core) emptyRecord)
     held-still low core (inl none) = inl none
     held-still low core (inr m) =
         inr (each-set (λ (j : ℕ) (t : TaskControlBlock). holder s core ≡ j → MayHold t) (s .tasks) i r emptyRecord low
@@ -112,9 +115,51 @@ holder-may s k core i low same = held-by (k .held core)
     held-by (inl none) = absurd (omega arith)
     held-by (inr m) = subst (λ (j : ℕ). MayHold (task s j)) same m
 
+-- ---- the queues with a slot at the tail of its band
+
+abbrev withTail : State → ℕ → Queues
+withTail s i = withBand (s .queues) (task s i .qos) (pushed i (queue s (task s i .qos)))
+
+module _ (s : State) (k : Invariant s) (i : ℕ) (used : task s i .«in_use» ≡ true) (idle : isState (task s i .state) Ready ≡ false) where
+  abbrev es : List ℕ
+  es = queue s (task s i .qos)
+
+  tail-is : pushed i es ≡ es ++ i ∷ []
+  tail-is = let low : i < 64 = used-in-table s (k .slots) i used in pushed-taken i es (takes-slot i es low ∙ ap not (never-full s k (task s i .qos) i low idle))
+
+  count-tail : (j : ℕ) → count j (pushed i es) ≡ count j es + count j (i ∷ [])
+  count-tail j = ap (count j) tail-is ∙ count-append j es (i ∷ [])
+
+  absent : (b : QoSClass) → count i (queue s b) ≡ 0
+  absent b = k .queued b i ∙ due-idle b (task s i) idle
+
+  tail-own : (b : QoSClass) → count i (ofBand (withTail s i) b) ≡ due b (withState (task s i) Ready)
+  tail-own =
+      let r : TaskControlBlock = withState (task s i) Ready in
+      let once : count i (pushed i es) ≡ 1 = omega (arith, count-tail i, absent (task s i .qos), count-one i) in
+      each-queue (λ (b : QoSClass) (l : List ℕ). count i l ≡ due b r) (s .queues) (task s i .qos) (pushed i es)
+      (once ∙ sym (due-ready (task s i .qos) r (record { ready = refl; of-band = refl })))
+      (λ b other. absent b ∙ sym (due-not b r (λ is. other (sym (is .of-band)))))
+
+  tail-rest : (b : QoSClass) (j : ℕ) → (j ≡ i → ⊥) → count j (ofBand (withTail s i) b) ≡ count j (queue s b)
+  tail-rest b j other =
+      each-queue (λ (c : QoSClass) (l : List ℕ). count j l ≡ count j (queue s c)) (s .queues) (task s i .qos) (pushed i es)
+      (let same : count j (pushed i es) ≡ count j es = omega (arith, count-tail j, count-other j i other) in same)
+      (λ c _. refl) b
+
+  tail-order : (x : ℕ) (b : QoSClass) → 1 ≤ count x (queue s b) → Sublistᴰ (before x (ofBand (withTail s i) b)) (before x (queue s b))
+  tail-order x =
+      each-queue (λ (b : QoSClass) (l : List ℕ). 1 ≤ count x (queue s b) → Sublistᴰ (before x l) (before x (queue s b))) (s .queues) (task s i .qos) (pushed i es)
+      (λ there. rw tail-is (rw (before-append x es (i ∷ []) there) (Sublistᴰ·refl (before x es))))
+      (λ b _ _. Sublistᴰ·refl (before x (queue s b)))
+
+-- ---- the changes
+
 module _ {safe : ℕ → Type 0} (s : State) (k : Invariant s) where
   -- a record alone, which asks of the queues what the old one asked
-  pub put : (i : ℕ) (r : TaskControlBlock) → i < 64 → Good r → ((b : QoSClass) → due b r ≡ due b (task s i)) → (MayHold (task s i) → MayHold r) → ((x : ℕ) → safe x → task s x .state ≡ Ready → x ≡ i → Alike r (task s i)) → Harmless safe s (withTask s i r)
+  pub put : (i : ℕ) (r : TaskControlBlock) → i < 64 → Good r → ((b : QoSClass) → due b r ≡ due b (task s i)) →
+      (MayHold (task s i) → MayHold r) → ((x : ℕ) → safe x → task s x .state ≡ Ready → x ≡ i → Alike r (task s i)) →
+      Harmless safe s (withTask s i r)
   put i r low good dues may alike = move s k i r (s .queues) (record {
     low = low;
     good = good;
@@ -127,33 +172,19 @@ module _ {safe : ℕ → Type 0} (s : State) (k : Invariant s) where
 
   -- a slot that was not waiting goes to the tail of its band
   pub to-tail : (i : ℕ) → task s i .«in_use» ≡ true → isState (task s i .state) Ready ≡ false → Harmless safe s (enqueued i s)
-  to-tail i used idle =
-      let t : TaskControlBlock = task s i in
-      let es : List ℕ = queue s (t .qos) in
-      let low : i < 64 = used-in-table s (k .slots) i used in
-      let tail : pushed i es ≡ es ++ i ∷ [] = pushed-taken i es (takes-slot i es low ∙ ap not (never-full s k (t .qos) i low idle)) in
-      let absent : (b : QoSClass) → count i (queue s b) ≡ 0 = λ b. k .queued b i ∙ due-idle b t idle in
-      let more : (j : ℕ) → count j (pushed i es) ≡ count j es + count j (i ∷ []) = λ j. ap (count j) tail ∙ count-append j es (i ∷ []) in
-      move s k i (withState t Ready) (withBand (s .queues) (t .qos) (pushed i es)) (record {
-        low = low;
-        good = record { in-use = used; mask = k .good i .mask; budget = k .good i .budget; consumed = k .good i .consumed };
-        own = each-queue (λ (b : QoSClass) (l : List ℕ). count i l ≡ due b (withState t Ready)) (s .queues) (t .qos) (pushed i es)
-            (let own : count i (pushed i es) ≡ 1 = omega (arith, more i, absent (t .qos), count-one i) in own ∙ sym (due-ready (t .qos) (withState t Ready) (record { ready = refl; of-band = refl })))
-            (λ b other. absent b ∙ sym (due-not b (withState t Ready) (λ r. other (sym (r .of-band)))));
-        rest = λ b j other.
-            each-queue (λ (c : QoSClass) (l : List ℕ). count j l ≡ count j (queue s c)) (s .queues) (t .qos) (pushed i es)
-            (let same : count j (pushed i es) ≡ count j es = omega (arith, more j, count-other j i other) in same)
-            (λ c _. refl) b;
-        may = λ core same. let m : MayHold t = holder-may s k core i low same in record { used = m .used; armed = m .armed };
-        alike = λ x _ ready same. absurd (not-both (t .state) (ap (λ (j : ℕ). task s j .state) (sym same) ∙ ready) idle);
-        order = λ x _ _.
-            each-queue (λ (b : QoSClass) (l : List ℕ). 1 ≤ count x (queue s b) → Sublistᴰ (before x l) (before x (queue s b))) (s .queues) (t .qos) (pushed i es)
-            (λ there. rw tail (rw (before-append x es (i ∷ []) there) (Sublistᴰ·refl (before x es))))
-            (λ b _ _. Sublistᴰ·refl (before x (queue s b)));
-      })
+  to-tail i used idle = move s k i (withState (task s i) Ready) (withTail s i) (record {
+    low = used-in-table s (k .slots) i used;
+    good = record { in-use = used; mask = k .good i .mask; budget = k .good i .budget; consumed = k .good i .consumed };
+    own = tail-own s k i used idle;
+    rest = tail-rest s k i used idle;
+    may = λ core same. let m : MayHold (task s i) = holder-may s k core i (used-in-table s (k .slots) i used) same in record { used = m .used; armed = m .armed };
+    alike = λ x _ ready same. absurd (not-both (task s i .state) (ap (λ (j : ℕ). task s j .state) (sym same) ∙ ready) idle);
+    order = λ x _ _. tail-order s k i used idle x;
+  })
 
   -- a slot leaves the queues with a record that asks for no place
-  pub out : (i : ℕ) (r : TaskControlBlock) → i < 64 → Good r → isState (r .state) Ready ≡ false → ((core : ℕ) → holder s core ≡ i → MayHold r) → ((x : ℕ) → safe x → x ≡ i → ⊥) → Harmless safe s (withTask (outOfQueues i s) i r)
+  pub out : (i : ℕ) (r : TaskControlBlock) → i < 64 → Good r → isState (r .state) Ready ≡ false →
+      ((core : ℕ) → holder s core ≡ i → MayHold r) → ((x : ℕ) → safe x → x ≡ i → ⊥) → Harmless safe s (withTask (outOfQueues i s) i r)
   out i r low good idle may apart = move s k i r (eachQueue (without i) (s .queues)) (record {
     low = low;
     good = good;
@@ -166,7 +197,8 @@ module _ {safe : ℕ → Type 0} (s : State) (k : Invariant s) where
 
   -- ---- holders and microseconds
 
-  pub holders : (hs : List ℕ) → length hs ≡ 64 → ((core : ℕ) → (getD hs core nobody ≡ nobody) ⊎ MayHold (task s (getD hs core nobody))) → Harmless safe s (withHolders s hs)
+  pub holders : (hs : List ℕ) → length hs ≡ 64 → ((core : ℕ) → (getD hs core nobody ≡ nobody) ⊎ MayHold (task s (getD hs core nobody))) →
+      Harmless safe s (withHolders s hs)
   holders hs whole held = record {
     invariant = record { slots = k .slots; cores = whole; good = k .good; queued = k .queued; held = held };
     undisturbed = λ x _ _. unseen x s hs (s .micros);

@@ -13,14 +13,16 @@ use Rattle.records.proofs.Cases.{split}
 use Rattle.scheduler.specs.State.{Queues, ofBand, withBand, eachQueue}
 
 -- a list after a store: what holds of the new element, and of the others as they were, holds everywhere
-pub each-set : {A : Type 0} (P : ℕ → A → Type 0) (l : List A) (i : ℕ) (a d : A) → i < length l → P i a → ((j : ℕ) → (j ≡ i → ⊥) → P j (getD l j d)) → (j : ℕ) → P j (getD (set l i a) j d)
+pub each-set : {A : Type 0} (P : ℕ → A → Type 0) (l : List A) (i : ℕ) (a d : A) → i < length l → P i a →
+    ((j : ℕ) → (j ≡ i → ⊥) → P j (getD l j d)) → (j : ℕ) → P j (getD (set l i a) j d)
 each-set P l i a d h new old j =
     split (λ _. P j (getD (set l i a) j d)) (eqb j i)
     (λ is. subst (λ (k : ℕ). P k (getD (set l i a) k d)) (sym (eqb-true j i is)) (subst (P i) (sym (getD-set-same l i a d h)) new))
     (λ no. subst (P j) (sym (getD-set-other l i j a d (eqb-false j i no))) (old j (eqb-false j i no)))
 
 -- the same for the queues
-pub each-queue : (P : QoSClass → List ℕ → Type 0) (q : Queues) (b : QoSClass) (es : List ℕ) → P b es → ((c : QoSClass) → (c ≡ b → ⊥) → P c (ofBand q c)) → (c : QoSClass) → P c (ofBand (withBand q b es) c)
+pub each-queue : (P : QoSClass → List ℕ → Type 0) (q : Queues) (b : QoSClass) (es : List ℕ) → P b es →
+    ((c : QoSClass) → (c ≡ b → ⊥) → P c (ofBand q c)) → (c : QoSClass) → P c (ofBand (withBand q b es) c)
 each-queue P q UserInteractive es new old UserInteractive = new
 each-queue P q UserInteractive es new old RealTimeIO = old RealTimeIO (λ e. let no : _≡_ {A = ℕ} 0 1 = cc in absurd (omega arith))
 each-queue P q UserInteractive es new old Background = old Background (λ e. let no : _≡_ {A = ℕ} 0 1 = cc in absurd (omega arith))

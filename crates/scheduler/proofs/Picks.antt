@@ -40,7 +40,8 @@ use Rattle.scheduler.proofs.Parts.{each-queue}
 
 pub data Choice (s : State) (core : ℕ) : PickOption → Type 0 where
   -- the first permitted entry of its band, where no earlier band has one
-  taken : (p : Pick) → firstPermitted s core (p .band) ≡ slot.Some (p .slot) → ((b : QoSClass) → bandCode b < bandCode (p .band) → firstPermitted s core b ≡ slot.None) → Choice s core (pick.Some p)
+  taken : (p : Pick) → firstPermitted s core (p .band) ≡ slot.Some (p .slot) →
+      ((b : QoSClass) → bandCode b < bandCode (p .band) → firstPermitted s core b ≡ slot.None) → Choice s core (pick.Some p)
   -- no band has one
   none : ((b : QoSClass) → firstPermitted s core b ≡ slot.None) → Choice s core pick.None
 
@@ -69,14 +70,17 @@ choice-is s core = go (firstPermitted s core UserInteractive) (firstPermitted s 
     Empty : QoSClass → Type 0
     Empty b = firstPermitted s core b ≡ slot.None
 
-    go : (u r b : SlotOption) → firstPermitted s core UserInteractive ≡ u → firstPermitted s core RealTimeIO ≡ r → firstPermitted s core Background ≡ b → Choice s core (foundIn UserInteractive u (foundIn RealTimeIO r (foundIn Background b pick.None)))
+    go : (u r b : SlotOption) → firstPermitted s core UserInteractive ≡ u → firstPermitted s core RealTimeIO ≡ r →
+        firstPermitted s core Background ≡ b →
+        Choice s core (foundIn UserInteractive u (foundIn RealTimeIO r (foundIn Background b pick.None)))
     go (slot.Some e) r b is-u is-r is-b = taken (record { slot = e; band = UserInteractive }) is-u (before-first Empty)
     go slot.None (slot.Some e) b is-u is-r is-b = taken (record { slot = e; band = RealTimeIO }) is-r (before-second Empty is-u)
     go slot.None slot.None (slot.Some e) is-u is-r is-b = taken (record { slot = e; band = Background }) is-b (before-third Empty is-u is-r)
     go slot.None slot.None slot.None is-u is-r is-b = none (every-band Empty is-u is-r is-b)
 
 -- a permitted entry that waits is not overlooked
-pub not-overlooked : (s : State) (core : ℕ) (b : QoSClass) (x : ℕ) → permitted s core x ≡ true → 1 ≤ count x (queue s b) → firstPermitted s core b ≡ slot.None → ⊥
+pub not-overlooked : (s : State) (core : ℕ) (b : QoSClass) (x : ℕ) → permitted s core x ≡ true → 1 ≤ count x (queue s b) →
+    firstPermitted s core b ≡ slot.None → ⊥
 not-overlooked s core b x may there missed =
     absurd (omega (arith, firstPlace-found (permitted s core) (queue s b) x may there, entryAt-none (placeFor s core b) (queue s b) missed))
 
@@ -173,10 +177,12 @@ P-invariant s k core low = subst (λ (c : Chosen). Invariant (c .state)) (sym (P
     after (none empty) = hold {safe = λ (x : ℕ). ⊥} s k core nobody low (inl refl) .invariant
 
 -- "None is answered only then": no queue has a permitted entry
-pub P-none : (s : State) (core : ℕ) → core < 64 → ruleP core s .pick ≡ pick.None → (b : QoSClass) (x : ℕ) → 1 ≤ count x (queue s b) → permitted s core x ≡ false
+pub P-none : (s : State) (core : ℕ) → core < 64 → ruleP core s .pick ≡ pick.None → (b : QoSClass) (x : ℕ) → 1 ≤ count x (queue s b) →
+    permitted s core x ≡ false
 P-none s core low e = after (choice-is s core) (ap (λ (c : Chosen). c .pick) (sym (P-below s core low)) ∙ e)
   where
-    after : {o : PickOption} → Choice s core o → afterPick s core o .pick ≡ pick.None → (b : QoSClass) (x : ℕ) → 1 ≤ count x (queue s b) → permitted s core x ≡ false
+    after : {o : PickOption} → Choice s core o → afterPick s core o .pick ≡ pick.None → (b : QoSClass) (x : ℕ) → 1 ≤ count x (queue s b) →
+        permitted s core x ≡ false
     after (taken p is earlier) e b x there = let no : _≡_ {A = ℕ} 0 1 = cc in absurd (omega arith)
     after (none empty) e b x there =
         split (λ (t : Bool). t ≡ false) (permitted s core x) (λ may. absurd (not-overlooked s core b x may there (empty b))) (λ _. refl)

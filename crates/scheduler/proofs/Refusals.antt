@@ -108,7 +108,8 @@ module _ (may : SchedError → Type 0) (s : State) (m : May may s) where
   ending (Holder i) = did refl
 
 -- what a refusal with this number can be
-refused-as : (may : SchedError → Type 0) (s : State) (o : Outcome) → Ending may s o → (e : SchedError) → o .answer .status ≡ Refused e → may e × (o ≡ refused e s)
+refused-as : (may : SchedError → Type 0) (s : State) (o : Outcome) → Ending may s o → (e : SchedError) → o .answer .status ≡ Refused e →
+    may e × (o ≡ refused e s)
 refused-as may s o (did is) e r = let no : _≡_ {A = ℕ} 0 1 = cc in absurd (omega arith)
 refused-as may s o (refuses f allowed is) e r =
     let same : f ≡ e = let both : Refused f ≡ Refused e = sym (ap (λ (q : Outcome). q .answer .status) is) ∙ r in cc in

@@ -89,7 +89,8 @@ module _ (breaking picking : Event → Bool) where
   ended-after e (before-break f more q t) = before-break f more q t
   ended-after e (with-list q) = with-list q
 
-  longer : (e : Event) {es part : List Event} → breaking e ≡ false → picking e ≡ false → LongestPart breaking picking es part → LongestPart breaking picking (e ∷ es) (e ∷ part)
+  longer : (e : Event) {es part : List Event} → breaking e ≡ false → picking e ≡ false → LongestPart breaking picking es part →
+      LongestPart breaking picking (e ∷ es) (e ∷ part)
   unfolding Each
   longer e {part = part} kept passed l = record {
     rest = l .rest;

@@ -99,7 +99,8 @@ module _ (s : State) (k : Invariant s) (x : ℕ) (ready : task s x .state ≡ Re
     turn-taken : Turn x s (pick.Some p) t
     turn-taken = record { bands = λ q e. let same : p ≡ q = cc in subst (λ (r : Pick). bandCode (r .band) ≤ bandCode mine) same not-behind; goes = waits-behind }
 
-  turn-pick : {o : PickOption} → Choice s c o → Turn x s (afterPick s c o .pick) (afterPick s c o .state) × ((p : Pick) × (afterPick s c o .pick ≡ pick.Some p))
+  turn-pick : {o : PickOption} → Choice s c o →
+      Turn x s (afterPick s c o .pick) (afterPick s c o .state) × ((p : Pick) × (afterPick s c o .pick ≡ pick.Some p))
   turn-pick (none empty) = absurd (not-overlooked s c mine x may (in-queue s k x ready) (empty mine))
   turn-pick (taken p is earlier) = (turn-taken p is earlier, (p, refl))
 

@@ -51,7 +51,9 @@ others-own band x (pick.Some p) later is =
     rw is (split (λ (t : Bool). cond (t && false) (p .slot .0 ∷ later) later ≡ later) (eqb (bandCode (p .band)) (bandCode band)) (λ _. refl) (λ _. refl))
 
 -- one event more in front, after which X waits on
-waits-on : (x : ℕ) (s t : State) (e : Event) (es : List Event) → task s x .state ≡ Ready → SchedulePicks e → Turn x s (e .answer .pick) t → WaitsOn x s (e .answer .pick) t → (task t x .state ≡ Ready → Bound (task t x .qos) x (ahead t x) es) → Bound (task s x .qos) x (ahead s x) (e ∷ es)
+waits-on : (x : ℕ) (s t : State) (e : Event) (es : List Event) → task s x .state ≡ Ready → SchedulePicks e → Turn x s (e .answer .pick) t →
+    WaitsOn x s (e .answer .pick) t → (task t x .state ≡ Ready → Bound (task t x .qos) x (ahead t x) es) →
+    Bound (task s x .qos) x (ahead s x) (e ∷ es)
 unfolding others Each
 waits-on x s t e es ready picks-so here w later =
     let on : Bound (task s x .qos) x (before x (queue t (task s x .qos))) es =

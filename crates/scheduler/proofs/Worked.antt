@@ -2,7 +2,7 @@
 -- pick 0 and 1 before X; a create, an enqueue, a refused wake and a query come between them; then X is picked, and what follows is no longer
 -- in the stretch. Assumes nothing.
 use mathlib.Core.Path.{_≡_, refl}
-use mathlib.Core.List.{List, [], _∷_, map}
+use mathlib.Core.List.{List, [], _∷_, _++_, map}
 use Prim.Native.Nat.{ℕ}
 use Rattle.records.specs.declared.band.QoSClass.{QoSClass}
 use Rattle.records.specs.declared.band.QoSClass.the-variants.{UserInteractive, Background}
@@ -37,7 +37,7 @@ abbrev within : List Call
 within = Schedule 6 ∷ make UserInteractive ∷ Enqueue (slot 4) ∷ Wake (slot 3) ∷ Tick 9 100 ∷ SystemTicksUs ∷ Tick 64 1 ∷ Schedule 63 ∷ []
 
 abbrev next : List Call
-next = Schedule 6 ∷ make UserInteractive ∷ Enqueue (slot 4) ∷ Wake (slot 3) ∷ Tick 9 100 ∷ SystemTicksUs ∷ Tick 64 1 ∷ Schedule 63 ∷ Schedule 1 ∷ Block (slot 2) ∷ []
+next = within ++ Schedule 1 ∷ Block (slot 2) ∷ []
 
 pub two-before-X : ahead here 2 ≡ 0 ∷ 1 ∷ []
 unfolding firstPlace pushed create enqueue run before

@@ -1,4 +1,12 @@
--- Document 01's rules as definitions, one file a section, in its order.
+-- Document 01's rules as definitions, in its order, and demand 3 on them. Every definition computes.
+--
+--   State      the state, and new                        Accepted   which states are accepted, as conditions and as a test
+--   Outcome    what a call makes of a state              Picking    rule P, schedule
+--   Waking     create to enqueue                         Ticking    tick, yield, handoff, plan
+--   Queries    0b to 10                                  Step       all of them as one, and lists of calls
+--   Took       what P takes in a call                    Paper      an answer's numbers
+--   Stretch    X's stretch, its picks, those before X    Demand3    what is claimed of every list
+--   Longest    what keeps the stretch from being cut short
 pub mod State
 pub mod Accepted
 pub mod Outcome

@@ -93,12 +93,14 @@ planOf previous next s = cond (same previous next) plan.None (plan.Some (record 
 abbrev pub answerPlan : SlotOption → Chosen → Outcome
 answerPlan previous c = chosenAs (value.Plan (planOf previous (c .next) (c .state))) c
 
--- "a holder that is Running is enqueued and cleared; then P"; 3 where "its holder [is] not Running". No holder: P, and the previous is none.
+-- "a holder that is Running is enqueued and cleared; then P"
+abbrev pub givesWay : Slot → ℕ → State → Outcome
+givesWay h core s = andThen (enqueue (h .0) s) (λ t. answerPlan (slot.Some h) (ruleP core (cleared core t)))
+
+-- 3 where "its holder [is] not Running". No holder: P, and the previous is none.
 abbrev pub yieldHolder : SlotOption → ℕ → State → Outcome
 yieldHolder slot.None core s = answerPlan slot.None (ruleP core s)
-yieldHolder (slot.Some h) core s =
-    cond (not (isState (task s (h .0) .state) Running)) (refused NoSuchTask s) (
-    andThen (enqueue (h .0) s) (λ t. answerPlan (slot.Some h) (ruleP core (cleared core t))))
+yieldHolder (slot.Some h) core s = cond (not (isState (task s (h .0) .state) Running)) (refused NoSuchTask s) (givesWay h core s)
 
 -- 08 yield: 3 where "core 64 or above"
 unfoldable pub yield : ℕ → State → Outcome
