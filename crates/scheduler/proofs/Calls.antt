@@ -15,7 +15,7 @@ use Rattle.scheduler.specs.State.{State, newState, task, queue}
 use Rattle.scheduler.specs.Accepted.{Accepted, every, everyBelow, accepts}
 use Rattle.scheduler.specs.Picking.{ruleP}
 use Rattle.scheduler.specs.Step.{step, run}
-use Rattle.scheduler.specs.Took.{Reach, reaches, reach, takenBy, Carries}
+use Rattle.scheduler.specs.Took.{Reach, reaches, takenBy, Carries}
 use Rattle.scheduler.proofs.Accepts.{accepts-sound}
 use Rattle.scheduler.proofs.Course.{Course, quiet, reaching, course}
 use Rattle.scheduler.proofs.Invariant.{Invariant, invariant-accepted, accepted-invariant, never-full}
@@ -66,7 +66,7 @@ ended-by (reaching u d low on-it f p-is end-is) t c is =
     let on : d ≡ c = cc in
     end-is ∙ (λ i. ruleP (on i) (from i) .state)
 
-pub carries : (call : Call) (s : State) → Accepted s → Carries (reach call s) (step call s)
+pub carries : (call : Call) (s : State) → Accepted s → Carries call s (step call s)
 carries call s a =
     let followed = course call s (accepted-invariant s a) in
     record { pick-is = carried-by followed; state-is = ended-by followed }

@@ -25,10 +25,10 @@ pub record Case : Type 0 where
 
 -- ---- the calls
 
-abbrev slot : ℕ → Slot
+abbrev pub slot : ℕ → Slot
 slot n = record { 0 = n }
 
-abbrev make : QoSClass → Call
+abbrev pub make : QoSClass → Call
 make band = Create (record { 0 = 7 }) band 0 0 0
 
 -- as many tasks of a band, made and enqueued in the order of their slots

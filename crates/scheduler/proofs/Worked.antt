@@ -3,25 +3,17 @@
 -- in the stretch. Assumes nothing.
 use mathlib.Core.Path.{_≡_, refl}
 use mathlib.Core.List.{List, [], _∷_, _++_, map}
-use Prim.Native.Nat.{ℕ}
-use Rattle.records.specs.declared.band.QoSClass.{QoSClass}
 use Rattle.records.specs.declared.band.QoSClass.the-variants.{UserInteractive, Background}
-use Rattle.records.specs.declared.ids.Slot.{Slot}
 use Rattle.queue.specs.Rules.{pushed, entryAt, takenAt}
 use Rattle.scheduler.specs.declared.call.Call.{Call}
-use Rattle.scheduler.specs.declared.call.Call.the-variants.{Create, Wake, Enqueue, Block, Schedule, Tick, SystemTicksUs}
+use Rattle.scheduler.specs.declared.call.Call.the-variants.{Wake, Enqueue, Block, Schedule, Tick, SystemTicksUs}
 use Rattle.scheduler.specs.State.{State, newState, firstPlace}
 use Rattle.scheduler.specs.Picking.{choice, ruleP, schedule}
 use Rattle.scheduler.specs.Waking.{create, wake, enqueue, block}
 use Rattle.scheduler.specs.Ticking.{ticked, tick}
 use Rattle.scheduler.specs.Step.{run}
+use Rattle.scheduler.proofs.KCases.{slot, make}
 use Rattle.scheduler.specs.Stretch.{Event, events, stretch, stretchOf, others, before, ahead}
-
-abbrev slot : ℕ → Slot
-slot n = record { 0 = n }
-
-abbrev make : QoSClass → Call
-make band = Create (record { 0 = 7 }) band 0 0 0
 
 -- X's point: the calls up to it, and the state there
 abbrev past : List Call

@@ -41,7 +41,7 @@ pub record Waiting (band : QoSClass) (x : ℕ) (entries : List ℕ) (es : List E
   pub among : (slot : ℕ) → 1 ≤ count slot (others band x es) → 1 ≤ count slot entries
   -- "each at most once"
   pub once : (slot : ℕ) → count slot (others band x es) ≤ 1
-  -- "and in their order"
+  -- "and in their order": they are the entries with some struck out
   pub in-order : Sublistᴰ (others band x es) entries
 
 -- at one point: its state, and the calls that follow

@@ -83,7 +83,7 @@ abbrev pub took : Call → State → PickOption
 took call s = takenBy (reach call s)
 
 -- what an outcome owes to P: "the answer carries exactly that pick, or none"
-pub record Carries (r : Reach) (o : Outcome) : Type 0 where
-  pub pick-is : o .answer .pick ≡ takenBy r
+pub record Carries (call : Call) (s : State) (o : Outcome) : Type 0 where
+  pub pick-is : o .answer .pick ≡ took call s
   -- where P is reached, the state is the one that P leaves
-  pub state-is : (s : State) (core : ℕ) → r ≡ reaches s core → o .state ≡ ruleP core s .state
+  pub state-is : (t : State) (core : ℕ) → reach call s ≡ reaches t core → o .state ≡ ruleP core t .state
