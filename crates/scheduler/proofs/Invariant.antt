@@ -171,11 +171,15 @@ pub accepted-invariant : (s : State) → Accepted s → Invariant s
 accepted-invariant s a = record {
   slots = a .slots;
   cores = a .cores;
-  good = everywhere Good (s .tasks) emptyRecord 64 (a .slots) empty-good (λ slot h. record { in-use = a .in-use slot h; mask = a .masks slot h; budget = a .budgets slot h; consumed = a .consumed slot h });
+  good = everywhere Good (s .tasks) emptyRecord 64 (a .slots) empty-good (λ slot h. record {
+    in-use = a .in-use slot h;
+    mask = a .masks slot h;
+    budget = a .budgets slot h;
+    consumed = a .consumed slot h;
+  });
   queued = λ band slot.
-      split (λ (b : Bool). due band (task s slot) ≡ cond b 1 0 → count slot (queue s band) ≡ due band (task s slot)) (readyOf band (task s slot))
-      (λ _ one. stands-once s a band slot (due-is band (task s slot) (let d : 1 ≤ due band (task s slot) = omega arith in d)) ∙ sym one)
-      (λ _ none. elsewhere s a band slot (λ r. let one : due band (task s slot) ≡ 1 = due-ready band (task s slot) r in absurd (omega arith)) ∙ sym none)
-      refl;
+      split (λ (b : Bool). count slot (queue s band) ≡ cond b 1 0) (readyOf band (task s slot))
+      (λ is. stands-once s a band slot (ready-of band (task s slot) .0 is))
+      (λ other. elsewhere s a band slot (λ r. true≢false (sym (ready-of band (task s slot) .1 r) ∙ other)));
   held = everywhere (λ (h : ℕ). (h ≡ nobody) ⊎ MayHold (task s h)) (s .holders) nobody 64 (a .cores) (inl refl) (a .holders);
 }
