@@ -29,7 +29,7 @@ new-accepted = accepts-sound newState refl
 -- ---- every call keeps acceptance
 
 invariant-by : {call : Call} {s : State} {p : PickOption} {end : State} {r : Reach} → Course call s p end r → Invariant end
-invariant-by (quiet nobody-picked f) = f .invariant
+invariant-by (quiet no-pick f) = f .invariant
 invariant-by (reaching t c low on-it f p-is end-is) = subst Invariant (sym end-is) (P-invariant t (f .invariant) c low)
 
 pub call-invariant : (call : Call) (s : State) → Invariant s → Invariant (step call s .state)
@@ -55,12 +55,12 @@ room-in-queue s a = never-full s (accepted-invariant s a)
 -- ---- the pick carried is P's
 
 carried-by : {call : Call} {s : State} {p : PickOption} {end : State} {r : Reach} → Course call s p end r → p ≡ takenBy r
-carried-by (quiet nobody-picked f) = nobody-picked
+carried-by (quiet no-pick f) = no-pick
 carried-by (reaching t c low on-it f p-is end-is) = p-is
 
 ended-by : {call : Call} {s : State} {p : PickOption} {end : State} {r : Reach} → Course call s p end r → (t : State) (c : ℕ) →
     r ≡ reaches t c → end ≡ ruleP c t .state
-ended-by (quiet nobody-picked f) t c is = let no : _≡_ {A = ℕ} 0 1 = cc in absurd (omega arith)
+ended-by (quiet no-pick f) t c is = let no : _≡_ {A = ℕ} 0 1 = cc in absurd (omega arith)
 ended-by (reaching u d low on-it f p-is end-is) t c is =
     let from : u ≡ t = cc in
     let on : d ≡ c = cc in

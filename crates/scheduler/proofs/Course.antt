@@ -27,11 +27,11 @@ use Rattle.scheduler.specs.Accepted.{MayHold}
 use Rattle.scheduler.specs.Outcome.{Outcome, Chosen, refused}
 use Rattle.scheduler.specs.Picking.{ruleP, schedule}
 use Rattle.scheduler.specs.Waking.{freeSlot, create, affinity, terminate, missing, block, enqueued, enqueue, isHeld, wake}
-use Rattle.scheduler.specs.Ticking.{givesWay, gain, cleared, waitsBefore, charged, sliceOver, requeued, keepsOn, tickHolder, ticked, tick, yieldHolder, yield, handoffIn, handoffHolder, handoff, planned}
+use Rattle.scheduler.specs.Ticking.{yieldRunning, gain, cleared, waitsBefore, charged, sliceOver, requeued, staysHolder, tickHolder, ticked, tick, yieldHolder, yield, handoffIn, handoffHolder, handoff, planned}
 use Rattle.scheduler.specs.Step.{step}
 use Rattle.scheduler.specs.Took.{Reach, unreached, reaches, below, outOfSlice, tickReach, yieldReach, handoffReach, reach}
 use Rattle.scheduler.specs.Stretch.{changes, names, concern}
-use Rattle.scheduler.proofs.Effects.{present, idle-in, holder-is, enqueue-done, creates, sets-mask, blocks, wakes-holder, consumes, clears, terminates, yields, slice-ends}
+use Rattle.scheduler.proofs.Effects.{switches-is, present, idle-in, holder-is, enqueue-done, creates, sets-mask, blocks, wakes-holder, consumes, clears, terminates, yields, slice-ends}
 use Rattle.scheduler.proofs.Invariant.{Invariant, used-in-table}
 use Rattle.scheduler.proofs.Moves.{Harmless, stay, then, to-tail, time}
 use Rattle.scheduler.proofs.Picks.{P-past}
@@ -59,7 +59,7 @@ unmoved call s k = quiet refl (stay s k)
 -- from a state that a change has led to
 after : {call : Call} {p : PickOption} {end : State} {r : Reach} (s t : State) → Harmless (Untouched call) s t → Course call t p end r →
     Course call s p end r
-after s t f (quiet nobody-picked g) = quiet nobody-picked (then s t _ f g)
+after s t f (quiet no-pick g) = quiet no-pick (then s t _ f g)
 after s t f (reaching u c low on-it g p-is end-is) = reaching u c low on-it (then s t u f g) p-is end-is
 
 -- ---- calls on slots
@@ -134,12 +134,12 @@ module _ (s : State) (k : Invariant s) (call : Call) (c : ℕ) (low : c < 64) (o
 
   -- the holder stays: its consumed time is still below its slice
   keep-course : (h : Slot) (elapsed : ℕ) → MayHold (task s (h .0)) → sliceOver (h .0) elapsed c s ≡ false →
-      ChosenOf call s (keepsOn h elapsed s) unreached
+      ChosenOf call s (staysHolder h elapsed s) unreached
   keep-course h elapsed may on =
       let budget : ℕ = task s (h .0) .«slice_budget_us» in
       let sum : ℕ = charged (h .0) elapsed s in
       let short : sum < budget = leb-false budget sum (neither (leb budget sum) (waitsBefore (task s (h .0) .qos) s c) on .0) in
-      let below-slice : sum < slice (task s (h .0) .qos) = omega (arith, may .armed) in
+      let below-slice : sum < slice (task s (h .0) .qos) = omega (arith, may .budget-is) in
       quiet refl (consumes s k (h .0) sum (may .used) below-slice)
 
   tick-course : (elapsed : ℕ) (h : SlotOption) → holderOf s c ≡ h → ChosenOf call s (tickHolder h c elapsed s) (tickReach h c elapsed s)
@@ -147,16 +147,19 @@ module _ (s : State) (k : Invariant s) (call : Call) (c : ℕ) (low : c < 64) (o
   tick-course elapsed (slot.Some h) is =
       let i : ℕ = h .0 in
       let may : MayHold (task s i) = holder-is s k c h is in
-      let Over : Bool → Chosen = λ (b : Bool). cond b (ruleP c (requeued i s)) (keepsOn h elapsed s) in
+      let Over : Bool → Chosen = λ (b : Bool). cond b (ruleP c (requeued i s)) (staysHolder h elapsed s) in
       let OverReach : Bool → Reach = λ (b : Bool). cond b (reaches (outOfSlice i s) c) unreached in
       let over : Bool = sliceOver i elapsed c s in
+      let on-time : ChosenOf call s (Over over) (OverReach over) =
+      split (λ (b : Bool). ChosenOf call s (Over b) (OverReach b)) over (λ _. over-course i may) (λ on. keep-course h elapsed may on) in
+      rw (switches-is i elapsed c s) (
       split (λ (b : Bool). ChosenOf call s (cond b (ruleP c (cleared c s)) (Over over)) (cond b (reaches (cleared c s) c) (OverReach over))) (isState (task s i .state) Blocked)
       (λ _. to-P (cleared c s) (clears s k c low))
-      (λ _. split (λ (b : Bool). ChosenOf call s (Over b) (OverReach b)) over (λ _. over-course i may) (λ on. keep-course h elapsed may on))
+      (λ _. on-time))
 
   -- a Running holder is queued without refusal
   yield-running : (h : Slot) → holderOf s c ≡ slot.Some h → isState (task s (h .0) .state) Running ≡ true →
-      CourseOf call s (givesWay h c s) (reaches (cleared c (enqueued (h .0) s)) c)
+      CourseOf call s (yieldRunning h c s) (reaches (cleared c (enqueued (h .0) s)) c)
   yield-running h is runs =
       let i : ℕ = h .0 in
       let used : task s i .«in_use» ≡ true = holder-is s k c h is .used in
@@ -167,7 +170,7 @@ module _ (s : State) (k : Invariant s) (call : Call) (c : ℕ) (low : c < 64) (o
   yield-course slot.None is = to-P s (stay s k)
   yield-course (slot.Some h) is =
       let away : Reach = reaches (cleared c (enqueued (h .0) s)) c in
-      split (λ (b : Bool). CourseOf call s (cond (not b) (refused NoSuchTask s) (givesWay h c s)) (cond b away unreached)) (isState (task s (h .0) .state) Running)
+      split (λ (b : Bool). CourseOf call s (cond (not b) (refused NoSuchTask s) (yieldRunning h c s)) (cond b away unreached)) (isState (task s (h .0) .state) Running)
       (λ runs. yield-running h is runs)
       (λ _. unmoved call s k)
 

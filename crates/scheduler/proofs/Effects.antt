@@ -1,7 +1,7 @@
 -- What each call does before it comes to P, or instead: one of the changes of Moves, or a few in a row, and so harmless to slots that it does
 -- not touch. Assumes nothing.
 use mathlib.Core.Path.{_≡_, refl, sym, ap, _∙_, subst}
-use mathlib.Core.Bool.{Bool, true, false, cond, not, true≢false}
+use mathlib.Core.Bool.{Bool, true, false, cond, not, _||_, or-false, true≢false}
 use mathlib.Core.List.{map}
 use mathlib.Core.Logic.{_⊎_, inl, inr}
 use Prim.Native.Nat.{ℕ, _<_}
@@ -11,6 +11,7 @@ use lib.Dec.{leb, eqb}
 use lib.ListN.{getD, length-map, List·getD-map}
 use lib.Seq.{getD-set-same}
 use Rattle.records.specs.declared.band.QoSClass.{QoSClass}
+use Rattle.records.specs.declared.band.QoSClass.the-variants.{UserInteractive, RealTimeIO, Background}
 use Rattle.records.specs.declared.ids.Slot.{Slot}
 use Rattle.records.specs.declared.ids.SlotOption.the-variants as slot
 use Rattle.records.specs.declared.ids.Tid.{Tid}
@@ -26,14 +27,15 @@ use Rattle.records.proofs.Cases.{split, by-if, neither}
 use Rattle.records.proofs.Masks.{storedMask-nonzero}
 use Rattle.records.proofs.States.{isState-true}
 use Rattle.scheduler.specs.declared.answer.Value.the-variants as value
-use Rattle.scheduler.specs.State.{State, nobody, task, holder, holderOf, withTask}
+use Rattle.scheduler.specs.State.{State, noneByte, task, queue, holder, holderOf, withTask}
 use Rattle.scheduler.specs.Accepted.{MayHold}
 use Rattle.scheduler.specs.Outcome.{Outcome, done}
-use Rattle.scheduler.specs.Waking.{freeSlot, released, outOfHolders, outOfQueues, ended, missing, enqueued, enqueue}
-use Rattle.scheduler.specs.Ticking.{cleared, requeued}
-use Rattle.scheduler.specs.Took.{backToQueue, outOfSlice}
+use Rattle.scheduler.specs.Picking.{permitted}
+use Rattle.scheduler.specs.Waking.{freeSlot, released, outOfHolders, outOfQueues, afterTerminate, missing, enqueued, enqueue}
+use Rattle.scheduler.specs.Ticking.{waitsBefore, charged, sliceOver, cleared, requeued}
+use Rattle.scheduler.specs.Took.{anyOf, earlierWaits, switches, backToQueue, outOfSlice}
 use Rattle.scheduler.proofs.Invariant.{Good, Invariant, due-idle, not-both, used-in-table, never-full}
-use Rattle.scheduler.proofs.Lists.{firstPlace-passes}
+use Rattle.scheduler.proofs.Lists.{firstPlace-passes, any-first}
 use Rattle.scheduler.proofs.Moves.{Alike, Harmless, stay, then, put, holder-may, to-tail, out, holders, hold}
 
 -- a slot that is not missing is one of the 64, and in use
@@ -53,6 +55,18 @@ free-idle t good free =
     (λ is. idle-in t Terminated is refl)
     (λ alive. absurd (true≢false (ap not (sym alive) ∙ sym (good .in-use) ∙ free)))
 
+-- ---- the tick's test, in the rule's words and in those of Took
+
+earlier-is : (band : QoSClass) (s : State) (c : ℕ) → earlierWaits band s c ≡ waitsBefore band s c
+unfolding anyOf
+earlier-is UserInteractive s c = refl
+earlier-is RealTimeIO s c = or-false (anyOf (permitted s c) (queue s UserInteractive)) ∙ any-first (permitted s c) (queue s UserInteractive)
+earlier-is Background s c = λ i.
+    any-first (permitted s c) (queue s UserInteractive) i || (or-false (anyOf (permitted s c) (queue s RealTimeIO)) ∙ any-first (permitted s c) (queue s RealTimeIO)) i
+
+pub switches-is : (h elapsed c : ℕ) (s : State) → switches h elapsed c s ≡ sliceOver h elapsed c s
+switches-is h elapsed c s = ap (λ (b : Bool). leb (task s h .«slice_budget_us») (charged h elapsed s) || b) (earlier-is (task s h .qos) s c)
+
 -- ---- facts about the state that a call finds
 
 module _ (s : State) (k : Invariant s) where
@@ -67,23 +81,23 @@ module _ (s : State) (k : Invariant s) where
   -- terminate lets go of the slot on every core, and leaves the other holders
   holder-left : (i c : ℕ) → holder (outOfHolders i s) c ≡ released i (holder s c)
   holder-left i c =
-      let none-stays : released i nobody ≡ nobody = by-if (λ (h : ℕ). h ≡ nobody) (eqb nobody i) (λ _. refl) (λ _. refl) in
-      ap (getD (map (released i) (s .holders)) c) (sym none-stays) ∙ List·getD-map (released i) (s .holders) c nobody
+      let none-stays : released i noneByte ≡ noneByte = by-if (λ (h : ℕ). h ≡ noneByte) (eqb noneByte i) (λ _. refl) (λ _. refl) in
+      ap (getD (map (released i) (s .holders)) c) (sym none-stays) ∙ List·getD-map (released i) (s .holders) c noneByte
 
   held-nowhere : (i : ℕ) → i < 64 → (c : ℕ) → holder (outOfHolders i s) c ≡ i → ⊥
   held-nowhere i low c is =
-      split (λ (b : Bool). cond b nobody (holder s c) ≡ i → ⊥) (eqb (holder s c) i) (λ _ e. omega arith) (λ other. eqb-false (holder s c) i other) (sym (holder-left i c) ∙ is)
+      split (λ (b : Bool). cond b noneByte (holder s c) ≡ i → ⊥) (eqb (holder s c) i) (λ _ e. omega arith) (λ other. eqb-false (holder s c) i other) (sym (holder-left i c) ∙ is)
 
   -- a core's holder, where there is one, may be held
-  not-nobody : (c : ℕ) → (holder s c ≡ nobody) ⊎ MayHold (task s (holder s c)) → eqb (holder s c) nobody ≡ false → MayHold (task s (holder s c))
-  not-nobody c (inl none) some = absurd (eqb-false (holder s c) nobody some none)
-  not-nobody c (inr m) some = m
+  not-none : (c : ℕ) → (holder s c ≡ noneByte) ⊎ MayHold (task s (holder s c)) → eqb (holder s c) noneByte ≡ false → MayHold (task s (holder s c))
+  not-none c (inl none) some = absurd (eqb-false (holder s c) noneByte some none)
+  not-none c (inr m) some = m
 
   pub holder-is : (c : ℕ) (h : Slot) → holderOf s c ≡ slot.Some h → MayHold (task s (h .0))
   holder-is c h =
-      split (λ (b : Bool). cond b slot.None (slot.Some (record { 0 = holder s c })) ≡ slot.Some h → MayHold (task s (h .0))) (eqb (holder s c) nobody)
+      split (λ (b : Bool). cond b slot.None (slot.Some (record { 0 = holder s c })) ≡ slot.Some h → MayHold (task s (h .0))) (eqb (holder s c) noneByte)
       (λ _ e. let no : _≡_ {A = ℕ} 0 1 = cc in absurd (omega arith))
-      (λ some e. let same : _≡_ {A = Slot} (record { 0 = holder s c }) h = cc in subst (λ (j : Slot). MayHold (task s (j .0))) same (not-nobody c (k .held c) some))
+      (λ some e. let same : _≡_ {A = Slot} (record { 0 = holder s c }) h = cc in subst (λ (j : Slot). MayHold (task s (j .0))) same (not-none c (k .held c) some))
 
   -- an enqueue of a slot in use that is not Ready is not refused
   pub enqueue-done : (i : ℕ) → i < 64 → task s i .«in_use» ≡ true → isState (task s i .state) Ready ≡ false →
@@ -118,7 +132,7 @@ module _ {safe : ℕ → Type 0} (s : State) (k : Invariant s) where
       put s k i (withMask (task s i) (storedMask mask)) low
       (record { in-use = k .good i .in-use; mask = storedMask-nonzero mask; budget = k .good i .budget; consumed = k .good i .consumed })
       (λ b. refl)
-      (λ m. record { used = m .used; armed = m .armed })
+      (λ m. record { used = m .used; budget-is = m .budget-is })
       (λ x sx _ same. absurd (apart x sx same))
 
   pub blocks : (i : ℕ) → i < 64 → task s i .«in_use» ≡ true → ((x : ℕ) → safe x → x ≡ i → ⊥) →
@@ -127,7 +141,7 @@ module _ {safe : ℕ → Type 0} (s : State) (k : Invariant s) where
       out s k i (blocked (task s i)) low
       (record { in-use = used; mask = k .good i .mask; budget = k .good i .budget; consumed = slice-positive (task s i .qos) })
       refl
-      (λ c is. let m : MayHold (task s i) = holder-may s k c i low is in record { used = m .used; armed = m .armed })
+      (λ c is. let m : MayHold (task s i) = holder-may s k c i low is in record { used = m .used; budget-is = m .budget-is })
       apart
 
   pub wakes-holder : (i : ℕ) → i < 64 → task s i .«in_use» ≡ true → isState (task s i .state) Blocked ≡ true →
@@ -137,12 +151,12 @@ module _ {safe : ℕ → Type 0} (s : State) (k : Invariant s) where
       put s k i (withState (task s i) Running) low
       (record { in-use = used; mask = k .good i .mask; budget = k .good i .budget; consumed = k .good i .consumed })
       (λ b. sym (due-idle b (task s i) idle))
-      (λ m. record { used = m .used; armed = m .armed })
+      (λ m. record { used = m .used; budget-is = m .budget-is })
       (λ x _. waits-elsewhere s k i idle x)
 
   let-go : (i : ℕ) → Harmless safe s (outOfHolders i s)
   let-go i =
-      let Held : ℕ → Type 0 = λ (h : ℕ). (h ≡ nobody) ⊎ MayHold (task s h) in
+      let Held : ℕ → Type 0 = λ (h : ℕ). (h ≡ noneByte) ⊎ MayHold (task s h) in
       holders s k (map (released i) (s .holders)) (length-map (s .holders) (released i) ∙ k .cores)
       (λ c. subst Held (sym (holder-left s k i c)) (by-if Held (eqb (holder s c) i) (λ _. inl refl) (λ _. k .held c)))
 
@@ -155,20 +169,20 @@ module _ {safe : ℕ → Type 0} (s : State) (k : Invariant s) where
       put s k i (withConsumed (task s i) n) (used-in-table s (k .slots) i used)
       (record { in-use = k .good i .in-use; mask = k .good i .mask; budget = k .good i .budget; consumed = short })
       (λ b. refl)
-      (λ m. record { used = m .used; armed = m .armed })
+      (λ m. record { used = m .used; budget-is = m .budget-is })
       (λ x _ _ _. record { state = refl; band = refl; mask = refl })
 
   pub clears : (c : ℕ) → c < 64 → Harmless safe s (cleared c s)
-  clears c low = hold s k c nobody low (inl refl)
+  clears c low = hold s k c noneByte low (inl refl)
 
 -- ---- two in a row
 
 module _ {safe : ℕ → Type 0} (s : State) (k : Invariant s) where
-  pub terminates : (i : ℕ) → i < 64 → ((x : ℕ) → safe x → x ≡ i → ⊥) → Harmless safe s (ended i s)
+  pub terminates : (i : ℕ) → i < 64 → ((x : ℕ) → safe x → x ≡ i → ⊥) → Harmless safe s (afterTerminate i s)
   terminates i low apart =
       let t : State = outOfHolders i s in
       let gone : Harmless safe s t = let-go s k i in
-      then s t (ended i s) gone
+      then s t (afterTerminate i s) gone
       (out t (gone .invariant) i (terminated (task s i)) low
       (record { in-use = refl; mask = k .good i .mask; budget = k .good i .budget; consumed = k .good i .consumed })
       refl

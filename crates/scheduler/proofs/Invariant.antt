@@ -21,7 +21,7 @@ use Rattle.records.specs.Task.{emptyRecord}
 use Rattle.records.proofs.Cases.{split}
 use Rattle.queue.specs.Rules.{count, full}
 use Rattle.queue.proofs.Counts.{count-entry}
-use Rattle.scheduler.specs.State.{State, nobody, task, queue, holder}
+use Rattle.scheduler.specs.State.{State, noneByte, task, queue, holder}
 use Rattle.scheduler.specs.Accepted.{Accepted, ReadyOf, MayHold, standings, readyOf}
 use Rattle.scheduler.proofs.Lists.{count-place, bounded, room}
 use Rattle.scheduler.proofs.Says.{ready-of}
@@ -65,7 +65,7 @@ pub record Invariant (s : State) : Type 0 where
   pub cores : length (s .holders) ≡ 64
   pub good : (slot : ℕ) → Good (task s slot)
   pub queued : (band : QoSClass) (slot : ℕ) → count slot (queue s band) ≡ due band (task s slot)
-  pub held : (core : ℕ) → (holder s core ≡ nobody) ⊎ MayHold (task s (holder s core))
+  pub held : (core : ℕ) → (holder s core ≡ noneByte) ⊎ MayHold (task s (holder s core))
 
 pub empty-good : Good emptyRecord
 empty-good = record { in-use = refl; mask = λ e. omega arith; budget = inl refl; consumed = omega arith }
@@ -181,5 +181,5 @@ accepted-invariant s a = record {
       split (λ (b : Bool). count slot (queue s band) ≡ cond b 1 0) (readyOf band (task s slot))
       (λ is. stands-once s a band slot (ready-of band (task s slot) .0 is))
       (λ other. elsewhere s a band slot (λ r. true≢false (sym (ready-of band (task s slot) .1 r) ∙ other)));
-  held = everywhere (λ (h : ℕ). (h ≡ nobody) ⊎ MayHold (task s h)) (s .holders) nobody 64 (a .cores) (inl refl) (a .holders);
+  held = everywhere (λ (h : ℕ). (h ≡ noneByte) ⊎ MayHold (task s h)) (s .holders) noneByte 64 (a .cores) (inl refl) (a .holders);
 }

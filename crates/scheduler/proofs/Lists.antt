@@ -1,17 +1,18 @@
 -- Laws about lists of entries: the first place that passes a test, distinct numbers, the entries before one, and parts of a list in its order. The heart of the
 -- waiting bound is `passed`: where an entry is taken that stands before x, what is then left before x stood before it. Assumes nothing.
 use mathlib.Core.Path.{_≡_, refl, sym, ap, _∙_}
-use mathlib.Core.Bool.{Bool, true, false, cond, true≢false}
+use mathlib.Core.Bool.{Bool, true, false, cond, true≢false, _||_}
 use mathlib.Core.List.{List, [], _∷_, _++_, Sublistᴰ, Sublistᴰ·slnil, Sublistᴰ·cons, Sublistᴰ·cons-cons, Sublistᴰ·refl}
 use Prim.Native.Nat.{ℕ, zero, suc, _+_, _≤_, _<_}
 use native.Mathlib.Omega.{arith}
-use borrow.Author.Tests.{eqb-true, eqb-false, eq-eqb, ne-eqb}
-use lib.Dec.{eqb}
+use borrow.Author.Tests.{eqb-true, eqb-false, eq-eqb, ne-eqb, lt-ltb}
+use lib.Dec.{ltb, eqb, leb·suc-suc}
 use lib.ListN.{length, getD}
 use Rattle.records.proofs.Cases.{split}
 use Rattle.queue.specs.Rules.{count, without}
 use Rattle.queue.proofs.Counts.{count-append, count-one, count-other, count-entry, count-without-same, count-without-le, length-without}
 use Rattle.scheduler.specs.State.{firstPlace}
+use Rattle.scheduler.specs.Took.{anyOf}
 use Rattle.scheduler.specs.Stretch.{before}
 
 -- ---- the first place that passes
@@ -66,6 +67,15 @@ firstPlace-found test (e ∷ l) x px h =
     let apart : e ≡ x → ⊥ = λ same. true≢false (sym px ∙ ap test (sym same) ∙ fails) in
     let behind : 1 ≤ count x l = let h2 : 1 ≤ cond false 1 0 + count x l = rw (ne-eqb e x apart) at h in omega arith in
     omega (arith, firstPlace-found test l x px behind))
+
+-- some element passes where the first that does has a place
+pub any-first : {A : Type 0} (test : A → Bool) (l : List A) → anyOf test l ≡ ltb (firstPlace test l) (length l)
+unfolding anyOf firstPlace
+any-first test [] = refl
+any-first test (a ∷ l) =
+    split (λ (b : Bool). b || anyOf test l ≡ ltb (cond b 0 (suc (firstPlace test l))) (suc (length l))) (test a)
+    (λ _. sym (lt-ltb 0 (suc (length l)) (omega arith)))
+    (λ _. any-first test l ∙ sym (leb·suc-suc (suc (firstPlace test l)) (length l)))
 
 -- ---- an entry that is counted has a place
 

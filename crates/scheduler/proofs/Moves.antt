@@ -16,7 +16,7 @@ use Rattle.records.specs.Task.{emptyRecord, withState}
 use Rattle.queue.specs.Rules.{count, pushed, without}
 use Rattle.queue.proofs.Counts.{count-append, count-one, count-other, count-without-same, count-without-other}
 use Rattle.queue.proofs.Rules.{takes-slot, pushed-taken}
-use Rattle.scheduler.specs.State.{State, Queues, nobody, task, ofBand, withBand, eachQueue, queue, holder, withTask, withQueues, withHolders, withHolder, withMicros}
+use Rattle.scheduler.specs.State.{State, Queues, noneByte, task, ofBand, withBand, eachQueue, queue, holder, withTask, withQueues, withHolders, withHolder, withMicros}
 use Rattle.scheduler.specs.Accepted.{MayHold}
 use Rattle.scheduler.specs.Waking.{enqueued, outOfQueues}
 use Rattle.scheduler.specs.Stretch.{before}
@@ -100,8 +100,8 @@ move s k i r q c =
       };
     }
   where
-    held-still : i < length (s .tasks) → (core : ℕ) → (holder s core ≡ nobody) ⊎ MayHold (task s (holder s core)) →
-        (holder s core ≡ nobody) ⊎ MayHold (getD (set (s .tasks) i r) (holder s core) emptyRecord)
+    held-still : i < length (s .tasks) → (core : ℕ) → (holder s core ≡ noneByte) ⊎ MayHold (task s (holder s core)) →
+        (holder s core ≡ noneByte) ⊎ MayHold (getD (set (s .tasks) i r) (holder s core) emptyRecord)
     held-still low core (inl none) = inl none
     held-still low core (inr m) =
         inr (each-set (λ (j : ℕ) (t : TaskControlBlock). holder s core ≡ j → MayHold t) (s .tasks) i r emptyRecord low
@@ -111,7 +111,7 @@ move s k i r q c =
 pub holder-may : (s : State) → Invariant s → (core i : ℕ) → i < 64 → holder s core ≡ i → MayHold (task s i)
 holder-may s k core i low same = held-by (k .held core)
   where
-    held-by : (holder s core ≡ nobody) ⊎ MayHold (task s (holder s core)) → MayHold (task s i)
+    held-by : (holder s core ≡ noneByte) ⊎ MayHold (task s (holder s core)) → MayHold (task s i)
     held-by (inl none) = absurd (omega arith)
     held-by (inr m) = subst (λ (j : ℕ). MayHold (task s j)) same m
 
@@ -177,7 +177,7 @@ module _ {safe : ℕ → Type 0} (s : State) (k : Invariant s) where
     good = record { in-use = used; mask = k .good i .mask; budget = k .good i .budget; consumed = k .good i .consumed };
     own = tail-own s k i used idle;
     rest = tail-rest s k i used idle;
-    may = λ core same. let m : MayHold (task s i) = holder-may s k core i (used-in-table s (k .slots) i used) same in record { used = m .used; armed = m .armed };
+    may = λ core same. let m : MayHold (task s i) = holder-may s k core i (used-in-table s (k .slots) i used) same in record { used = m .used; budget-is = m .budget-is };
     alike = λ x _ ready same. absurd (not-both (task s i .state) (ap (λ (j : ℕ). task s j .state) (sym same) ∙ ready) idle);
     order = λ x _ _. tail-order s k i used idle x;
   })
@@ -197,7 +197,7 @@ module _ {safe : ℕ → Type 0} (s : State) (k : Invariant s) where
 
   -- ---- holders and microseconds
 
-  pub holders : (hs : List ℕ) → length hs ≡ 64 → ((core : ℕ) → (getD hs core nobody ≡ nobody) ⊎ MayHold (task s (getD hs core nobody))) →
+  pub holders : (hs : List ℕ) → length hs ≡ 64 → ((core : ℕ) → (getD hs core noneByte ≡ noneByte) ⊎ MayHold (task s (getD hs core noneByte))) →
       Harmless safe s (withHolders s hs)
   holders hs whole held = record {
     invariant = record { slots = k .slots; cores = whole; good = k .good; queued = k .queued; held = held };
@@ -205,10 +205,10 @@ module _ {safe : ℕ → Type 0} (s : State) (k : Invariant s) where
   }
 
   -- one core's holder becomes none, or one that may be held
-  pub hold : (core h : ℕ) → core < 64 → (h ≡ nobody) ⊎ MayHold (task s h) → Harmless safe s (withHolder s core h)
+  pub hold : (core h : ℕ) → core < 64 → (h ≡ noneByte) ⊎ MayHold (task s h) → Harmless safe s (withHolder s core h)
   hold core h low may =
       holders (set (s .holders) core h) (length-set (s .holders) core h ∙ k .cores)
-      (each-set (λ (c g : ℕ). (g ≡ nobody) ⊎ MayHold (task s g)) (s .holders) core h nobody (omega (arith, k .cores)) may (λ c _. k .held c))
+      (each-set (λ (c g : ℕ). (g ≡ noneByte) ⊎ MayHold (task s g)) (s .holders) core h noneByte (omega (arith, k .cores)) may (λ c _. k .held c))
 
   pub time : (n : ℕ) → Harmless safe s (withMicros s n)
   time n = record {

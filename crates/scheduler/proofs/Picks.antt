@@ -26,7 +26,7 @@ use Rattle.queue.proofs.Rules.{entryAt-some, entryAt-none, takenAt-cut}
 use Rattle.scheduler.specs.declared.answer.Pick.{Pick}
 use Rattle.scheduler.specs.declared.answer.PickOption.{PickOption}
 use Rattle.scheduler.specs.declared.answer.PickOption.the-variants as pick
-use Rattle.scheduler.specs.State.{State, nobody, bandOrder, task, withBand, queue, withTask}
+use Rattle.scheduler.specs.State.{State, noneByte, bandOrder, task, withBand, queue, withTask}
 use Rattle.scheduler.specs.Accepted.{ReadyOf, MayHold}
 use Rattle.scheduler.specs.Outcome.{Chosen}
 use Rattle.scheduler.specs.Picking.{permitted, placeFor, firstPermitted, foundIn, choice, leaves, afterPick, noChoice, ruleP}
@@ -141,7 +141,7 @@ module _ (s : State) (k : Invariant s) (core : ℕ) (p : Pick) (is : firstPermit
         each-queue (λ (c : QoSClass) (l : List ℕ). count j l ≡ count j (queue s c)) (s .queues) (p .band) rest
         (let same : count j rest ≡ count j es = omega (arith, fewer j, count-other j i other) in same)
         (λ c _. refl) b;
-    may = λ _ _. record { used = used; armed = refl };
+    may = λ _ _. record { used = used; budget-is = refl };
     alike = λ x sx _ same. absurd (sx .0 same);
     order = λ x sx _.
         each-queue (λ (b : QoSClass) (l : List ℕ). 1 ≤ count x (queue s b) → Sublistᴰ (before x l) (before x (queue s b))) (s .queues) (p .band) rest
@@ -155,7 +155,7 @@ module _ (s : State) (k : Invariant s) (core : ℕ) (p : Pick) (is : firstPermit
       let t : State = withTask (leaves s core (p .band)) i (picked (task s i)) in
       let stored : task t i ≡ picked (task s i) = getD-set-same (s .tasks) i (picked (task s i)) emptyRecord (omega (arith, k .slots, low)) in
       then s t (afterPick s core (pick.Some p) .state) pick-harmless
-      (hold t (pick-harmless .invariant) core i below (inr (subst MayHold (sym stored) (record { used = used; armed = refl }))))
+      (hold t (pick-harmless .invariant) core i below (inr (subst MayHold (sym stored) (record { used = used; budget-is = refl }))))
 
 -- ---- P
 
@@ -174,7 +174,7 @@ P-invariant s k core low = subst (λ (c : Chosen). Invariant (c .state)) (sym (P
   where
     after : {o : PickOption} → Choice s core o → Invariant (afterPick s core o .state)
     after (taken p is earlier) = pick-held s k core p is low .invariant
-    after (none empty) = hold {safe = λ (x : ℕ). ⊥} s k core nobody low (inl refl) .invariant
+    after (none empty) = hold {safe = λ (x : ℕ). ⊥} s k core noneByte low (inl refl) .invariant
 
 -- "None is answered only then": no queue has a permitted entry
 pub P-none : (s : State) (core : ℕ) → core < 64 → ruleP core s .pick ≡ pick.None → (b : QoSClass) (x : ℕ) → 1 ≤ count x (queue s b) →

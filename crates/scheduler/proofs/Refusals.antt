@@ -29,12 +29,12 @@ use Rattle.scheduler.specs.Step.{step}
 use Rattle.scheduler.proofs.Calls.{room-in-queue}
 use Rattle.scheduler.proofs.Effects.{present}
 
--- done, or refused with a number that may be
+-- done, or refused with a number that is allowed
 pub data Ending (may : SchedError → Type 0) (s : State) (o : Outcome) : Type 0 where
   did : o .answer .status ≡ Done → Ending may s o
   refuses : (e : SchedError) → may e → o ≡ refused e s → Ending may s o
 
--- every number but 2 may be; 2 may be where 64 entries stand in the queue of a slot to be queued
+-- every number but 2 is allowed; 2 is where 64 entries stand in the queue of a slot to be queued
 pub record May (may : SchedError → Type 0) (s : State) : Type 0 where
   pub other : (e : SchedError) → (errorCode e ≡ 2 → ⊥) → may e
   pub two : (i : ℕ) → missing s i ≡ false → isState (task s i .state) Ready ≡ false → full (queue s (task s i .qos)) ≡ true → may QueueFull

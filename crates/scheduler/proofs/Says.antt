@@ -106,4 +106,4 @@ ready-of q t =
     (λ (ready, of-band). record { ready = ready; of-band = of-band }, λ r. (r .ready, r .of-band))
 
 pub may-hold : {t : TaskControlBlock} → Says (mayHold t) (MayHold t)
-may-hold = Iff·trans (both Iff·rfl equal) (λ (used, armed). record { used = used; armed = armed }, λ m. (m .used, m .armed))
+may-hold = Iff·trans (both Iff·rfl equal) (λ (used, budget-is). record { used = used; budget-is = budget-is }, λ m. (m .used, m .budget-is))

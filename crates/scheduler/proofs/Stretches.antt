@@ -16,9 +16,9 @@ use Rattle.scheduler.specs.declared.answer.PickOption.{PickOption}
 use Rattle.scheduler.specs.declared.answer.PickOption.the-variants as pick
 use Rattle.scheduler.specs.State.{State, task}
 use Rattle.scheduler.specs.Step.{step, run}
-use Rattle.scheduler.specs.Stretch.{Event, events, Concern, changes, names, concern, breaksFor, breaks, isPick, picks, stretch, stretchOf}
+use Rattle.scheduler.specs.Stretch.{Event, eventOf, events, Concern, changes, names, concern, breaksFor, breaks, isPick, picks, stretch, stretchOf}
 use Rattle.scheduler.specs.Demand3.{Each}
-use Rattle.scheduler.specs.Longest.{Breaking, blocks, terminates, sets-mask, names-forbidden, Ended, with-pick, before-break, with-list, butLast, LongestPart, Longest, Names, by-schedule, by-tick, by-yield, by-handoff, by-plan, Query, can-run, index-for, record-of, current, microseconds, held-by}
+use Rattle.scheduler.specs.Longest.{Breaking, blocks, terminates, sets-mask, names-forbidden, Ended, with-pick, before-break, with-list, butLast, Longest, Names, by-schedule, by-tick, by-yield, by-handoff, by-plan, Query, can-run, index-for, record-of, current, microseconds, held-by}
 
 -- ---- which calls break X's conditions
 
@@ -88,8 +88,8 @@ module _ (breaking picking : Event → Bool) where
   ended-after e (before-break f more q t) = before-break f more q t
   ended-after e (with-list q) = with-list q
 
-  longer : (e : Event) {es part : List Event} → breaking e ≡ false → picking e ≡ false → LongestPart breaking picking es part →
-      LongestPart breaking picking (e ∷ es) (e ∷ part)
+  longer : (e : Event) {es part : List Event} → breaking e ≡ false → picking e ≡ false → Longest breaking picking es part →
+      Longest breaking picking (e ∷ es) (e ∷ part)
   unfolding Each
   longer e {part = part} kept passed l = record {
     rest = l .rest;
@@ -99,11 +99,11 @@ module _ (breaking picking : Event → Bool) where
     unpicked = each-after (λ (f : Event). picking f ≡ false) e part passed (l .unpicked);
   }
 
-  pub longest : (es : List Event) → Longest breaking picking es
+  pub longest : (es : List Event) → Longest breaking picking es (stretch breaking picking es)
   unfolding stretch Each butLast
   longest [] = record { rest = []; whole = refl; ended = with-list refl; unbroken = tt; unpicked = tt }
   longest (e ∷ es) =
-      let Part : List Event → Type 0 = LongestPart breaking picking (e ∷ es) in
+      let Part : List Event → Type 0 = Longest breaking picking (e ∷ es) in
       let s : List Event = stretch breaking picking es in
       split (λ (b : Bool). Part (cond b [] (e ∷ cond (picking e) [] s))) (breaking e)
       (λ broken. record { rest = e ∷ es; whole = refl; ended = before-break e es refl broken; unbroken = tt; unpicked = tt })
@@ -112,7 +112,7 @@ module _ (breaking picking : Event → Bool) where
       (λ passed. longer e kept passed (longest es)))
 
 -- X's own stretch is such a part of the calls from the point on
-pub stretchOf-longest : (x : ℕ) (s : State) (next : List Call) → LongestPart (breaks x) (picks x) (events next s) (stretchOf x s next)
+pub stretchOf-longest : (x : ℕ) (s : State) (next : List Call) → Longest (breaks x) (picks x) (events next s) (stretchOf x s next)
 stretchOf-longest x s next = longest (breaks x) (picks x) (events next s)
 
 pub events-calls : (calls : List Call) (s : State) → map (λ (e : Event). e .call) (events calls s) ≡ calls
@@ -125,7 +125,7 @@ pub events-append : (past next : List Call) (s : State) → events (past ++ next
 unfolding events run
 events-append [] next s = refl
 events-append (call ∷ past) next s =
-    ap (λ (l : List Event). record { call = call; found = s; answer = step call s .answer } ∷ l) (events-append past next (step call s .state))
+    ap (λ (l : List Event). eventOf call s ∷ l) (events-append past next (step call s .state))
 
 -- ---- which calls pick X
 
@@ -138,11 +138,11 @@ picks-when x e = picked x (e .answer .pick)
 
 -- ---- queries
 
-pub query-quiet : (x : ℕ) (s : State) (call : Call) → Query call →
-    (breaks x (record { call = call; found = s; answer = step call s .answer }) ≡ false) × (step call s .answer .pick ≡ pick.None) × (step call s .state ≡ s)
-query-quiet x s call (can-run slot c) = (refl, refl, refl)
-query-quiet x s call (index-for tid) = (refl, refl, refl)
-query-quiet x s call (record-of slot) = (refl, refl, refl)
-query-quiet x s call (current c) = (refl, refl, refl)
-query-quiet x s call microseconds = (refl, refl, refl)
-query-quiet x s call (held-by slot) = (refl, refl, refl)
+pub query-does-nothing : (x : ℕ) (s : State) (call : Call) → Query call →
+    (breaks x (eventOf call s) ≡ false) × (step call s .answer .pick ≡ pick.None) × (step call s .state ≡ s)
+query-does-nothing x s call (can-run slot c) = (refl, refl, refl)
+query-does-nothing x s call (index-for tid) = (refl, refl, refl)
+query-does-nothing x s call (record-of slot) = (refl, refl, refl)
+query-does-nothing x s call (current c) = (refl, refl, refl)
+query-does-nothing x s call microseconds = (refl, refl, refl)
+query-does-nothing x s call (held-by slot) = (refl, refl, refl)

@@ -22,7 +22,7 @@ use Rattle.scheduler.specs.State.{State, task, queue}
 use Rattle.scheduler.specs.Picking.{permitted, placeFor, firstPermitted, afterPick, ruleP, schedule}
 use Rattle.scheduler.specs.Step.{step}
 use Rattle.scheduler.specs.Took.{Reach}
-use Rattle.scheduler.specs.Stretch.{Concern, changes, names, concern, breaksFor, isPick, othersIn, before}
+use Rattle.scheduler.specs.Stretch.{eventOf, Concern, changes, names, concern, breaksFor, isPick, othersIn, before}
 use Rattle.scheduler.specs.Demand3.{SchedulePicks}
 use Rattle.scheduler.proofs.Course.{Course, quiet, reaching, course}
 use Rattle.scheduler.proofs.Invariant.{Invariant}
@@ -128,7 +128,7 @@ module _ (s : State) (k : Invariant s) (x : ℕ) (ready : task s x .state ≡ Re
   alone = left-alone x mask (concern call) unbroken
 
   turn-course : {o : PickOption} {t : State} {r : Reach} → Course call s o t r → Turn x s o t
-  turn-course {o} {t} (quiet nobody-picked f) = subst (λ (q : PickOption). Turn x s q t) (sym nobody-picked) (turn-quiet x s t (f .undisturbed x alone ready))
+  turn-course {o} {t} (quiet no-pick f) = subst (λ (q : PickOption). Turn x s q t) (sym no-pick) (turn-quiet x s t (f .undisturbed x alone ready))
   turn-course {o} {t} (reaching u c low on-it f p-is end-is) =
       let calm : Undisturbed x s u = f .undisturbed x alone ready in
       let may : permitted u c x ≡ true = ap (λ (m : ℕ). permits m c) (calm .alike .mask) ∙ may-use x mask (concern call) c unbroken on-it low in
@@ -139,7 +139,7 @@ module _ (s : State) (k : Invariant s) (x : ℕ) (ready : task s x .state ≡ Re
   pub turn : Turn x s (step call s .answer .pick) (step call s .state)
   turn = turn-course (course call s k)
 
-  pub schedule-picks : SchedulePicks (record { call = call; found = s; answer = step call s .answer })
+  pub schedule-picks : SchedulePicks (eventOf call s)
   unfolding schedule
   schedule-picks c is low =
       let found : (p : Pick) × (ruleP c s .pick ≡ pick.Some p) = turn-P s k x ready c low (may-use x mask (concern call) c unbroken (ap concern is) low) .1 in

@@ -17,10 +17,10 @@ use Rattle.scheduler.specs.declared.answer.PickOption.the-variants as pi
 use Rattle.scheduler.specs.State.{State, newState, task, queue}
 use Rattle.scheduler.specs.Accepted.{Accepted}
 use Rattle.scheduler.specs.Step.{step, run}
-use Rattle.scheduler.specs.Stretch.{Event, events, breaks, isPick, picks, stretch, stretchOf, othersIn, others, before, ahead}
+use Rattle.scheduler.specs.Stretch.{Event, eventOf, events, breaks, isPick, picks, stretch, stretchOf, othersIn, others, before, ahead}
 use Rattle.scheduler.specs.Demand3.{Each, SchedulePicks, NotBehind, Point, Claim}
-use Rattle.scheduler.proofs.Calls.{new-accepted, call-invariant, run-invariant}
-use Rattle.scheduler.proofs.Invariant.{Invariant, accepted-invariant, entry-once}
+use Rattle.scheduler.proofs.Calls.{new-accepted, call-invariant, run-invariant, carries}
+use Rattle.scheduler.proofs.Invariant.{Invariant, invariant-accepted, accepted-invariant, entry-once}
 use Rattle.scheduler.proofs.Lists.{sub-length, sub-count, before-cut}
 use Rattle.scheduler.proofs.Moves.{in-queue}
 use Rattle.scheduler.proofs.Turns.{WaitsOn, Turn, turn, schedule-picks}
@@ -71,7 +71,7 @@ bound (call ∷ next) s k x ready =
     let band : QoSClass = task s x .qos in
     let t : State = step call s .state in
     let o : PickOption = step call s .answer .pick in
-    let e : Event = record { call = call; found = s; answer = step call s .answer } in
+    let e : Event = eventOf call s in
     let Holds : List Event → Type 0 = Bound band x (ahead s x) in
     split (λ (b : Bool). Holds (cond b [] (e ∷ cond (picks x e) [] (stretchOf x t next)))) (breaks x e)
     (λ _. no-calls band x (ahead s x))
@@ -87,6 +87,7 @@ bound (call ∷ next) s k x ready =
 point : (s : State) → Invariant s → (next : List Call) → Point s next
 point s k next = record {
   consumed = λ slot. k .good slot .consumed;
+  carried = λ call _ _. carries call s (invariant-accepted s k);
   stands = λ x ready. before-cut x (queue s (task s x .qos)) (in-queue s k x ready);
   waiting = λ x ready.
       let b : Bound (task s x .qos) x (ahead s x) (stretchOf x s next) = bound next s k x ready in

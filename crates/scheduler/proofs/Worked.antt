@@ -1,6 +1,6 @@
--- One stretch of demand 3, computed. Slots 0, 1 and 2 of band 0 wait in that order, and slot 3 of band 2; X is slot 2, so p is 2. Other cores
--- pick 0 and 1 before X; a create, an enqueue, a refused wake and a query come between them; then X is picked, and what follows is no longer
--- in the stretch. Assumes nothing.
+-- One stretch of demand 3, computed. Slots 0, 1 and 2 of band 0 wait in that order, and slot 3 of band 2; X is slot 2, so p is 2. Two cores
+-- pick 0 and 1, by a schedule and a tick; a create, an enqueue, a refused wake, a query and a tick on core 64 come in between; then X is
+-- picked, and what follows is no longer in the stretch. Assumes nothing.
 use mathlib.Core.Path.{_≡_, refl}
 use mathlib.Core.List.{List, [], _∷_, _++_, map}
 use Rattle.records.specs.declared.band.QoSClass.the-variants.{UserInteractive, Background}

@@ -14,7 +14,7 @@ use Rattle.records.specs.declared.task.TaskControlBlock.{TaskControlBlock}
 use Rattle.records.specs.Band.{bandCode, slice}
 use Rattle.records.specs.State.{isState}
 use Rattle.queue.specs.Rules.{count}
-use Rattle.scheduler.specs.State.{State, nobody, bandOrder, task, queue, holder}
+use Rattle.scheduler.specs.State.{State, noneByte, bandOrder, task, queue, holder}
 
 -- how often a slot stands in the queues
 abbrev pub standings : State → ℕ → ℕ
@@ -30,7 +30,7 @@ pub record ReadyOf (band : QoSClass) (t : TaskControlBlock) : Type 0 where
 -- "a slot in use whose budget is its slice"
 pub record MayHold (t : TaskControlBlock) : Type 0 where
   pub used : t .«in_use» ≡ true
-  pub armed : t .«slice_budget_us» ≡ slice (t .qos)
+  pub budget-is : t .«slice_budget_us» ≡ slice (t .qos)
 
 pub record Accepted (s : State) : Type 0 where
   -- "The state is 64 records (slots 0 to 63), [..] a holder for each of 64 cores"
@@ -47,7 +47,7 @@ pub record Accepted (s : State) : Type 0 where
   -- "every Ready slot stands in the queues once"
   pub once : (slot : ℕ) → slot < 64 → task s slot .state ≡ Ready → standings s slot ≡ 1
   -- "every holder is 255 or a slot in use whose budget is its slice"
-  pub holders : (core : ℕ) → core < 64 → (holder s core ≡ nobody) ⊎ MayHold (task s (holder s core))
+  pub holders : (core : ℕ) → core < 64 → (holder s core ≡ noneByte) ⊎ MayHold (task s (holder s core))
   -- "every budget is 0 or its slice"
   pub budgets : (slot : ℕ) → slot < 64 → (task s slot .«slice_budget_us» ≡ 0) ⊎ (task s slot .«slice_budget_us» ≡ slice (task s slot .qos))
   -- "every consumed is below its slice"
@@ -85,7 +85,7 @@ abbrev pub mayHold : TaskControlBlock → Bool
 mayHold t = t .«in_use» && eqb (t .«slice_budget_us») (slice (t .qos))
 
 abbrev pub holderFits : State → ℕ → Bool
-holderFits s h = eqb h nobody || mayHold (task s h)
+holderFits s h = eqb h noneByte || mayHold (task s h)
 
 unfoldable pub accepts : State → Bool
 accepts s =

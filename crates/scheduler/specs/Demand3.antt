@@ -13,7 +13,8 @@ use Rattle.scheduler.specs.declared.call.Call.the-variants.{Schedule}
 use Rattle.scheduler.specs.declared.answer.Pick.{Pick}
 use Rattle.scheduler.specs.declared.answer.PickOption.the-variants as pick
 use Rattle.scheduler.specs.State.{State, task, queue}
-use Rattle.scheduler.specs.Step.{run}
+use Rattle.scheduler.specs.Step.{step, run}
+use Rattle.scheduler.specs.Took.{Carries}
 use Rattle.scheduler.specs.Stretch.{Event, others, ahead, stretchOf}
 
 -- what holds of each element of a list
@@ -48,6 +49,8 @@ pub record Waiting (band : QoSClass) (x : ℕ) (entries : List ℕ) (es : List E
 pub record Point (s : State) (next : List Call) : Type 0 where
   -- "at every point of every such list, every slot's consumed time is below its band's slice"
   pub consumed : (slot : ℕ) → task s slot .«consumed_slice_us» < slice (task s slot .qos)
+  -- "the answer carries exactly that pick, or none, and those are the picks counted"
+  pub carried : (call : Call) (more : List Call) → next ≡ call ∷ more → Carries call s (step call s)
   -- "a slot X is Ready with p entries before it in its band"
   pub stands : (x : ℕ) → task s x .state ≡ Ready → (rest : List ℕ) × (queue s (task s x .qos) ≡ ahead s x ++ x ∷ rest)
   -- "Whatever other tasks and cores do in that stretch, [..]"

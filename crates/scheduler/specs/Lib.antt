@@ -1,4 +1,5 @@
--- Document 01's rules as definitions, in its order, and demand 3 on them. Every definition computes.
+-- Document 01's rules as definitions, in its order, and demand 3 on them. Rules and tests compute; what is claimed
+-- of them is a record with named fields (`Accepted`, `Carries`, `Waiting`, `Longest`).
 --
 --   State      the state, and new                        Accepted   which states are accepted, as conditions and as a test
 --   Outcome    what a call makes of a state              Picking    rule P, schedule

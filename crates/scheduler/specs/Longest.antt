@@ -10,7 +10,7 @@ use Rattle.records.specs.Mask.{permits}
 use Rattle.scheduler.specs.declared.call.Call.{Call}
 use Rattle.scheduler.specs.declared.call.Call.the-variants.{Affinity, Terminate, Block, Schedule, Tick, Yield, Handoff, Plan, CanRunOnCore, TaskIndexForTid, Task, CurrentTaskOnCpu, SystemTicksUs, Holder}
 use Rattle.scheduler.specs.State.{task}
-use Rattle.scheduler.specs.Stretch.{Event, stretch}
+use Rattle.scheduler.specs.Stretch.{Event}
 use Rattle.scheduler.specs.Demand3.{Each}
 
 -- "names a core": the five calls that have one
@@ -48,7 +48,7 @@ butLast (e ∷ []) = []
 butLast (e ∷ next ∷ rest) = e ∷ butLast (next ∷ rest)
 
 -- the part of a list that "runs up to X's next pick, as long as no call" breaks it
-pub record LongestPart (breaking picking : Event → Bool) (es part : List Event) : Type 0 where
+pub record Longest (breaking picking : Event → Bool) (es part : List Event) : Type 0 where
   -- it starts where the list does and leaves nothing out
   pub rest : List Event
   pub whole : es ≡ part ++ rest
@@ -57,9 +57,6 @@ pub record LongestPart (breaking picking : Event → Bool) (es part : List Event
   -- none of its calls breaks, and only its last may pick
   pub unbroken : Each (λ (e : Event). breaking e ≡ false) part
   pub unpicked : Each (λ (e : Event). picking e ≡ false) (butLast part)
-
-abbrev pub Longest : (Event → Bool) → (Event → Bool) → List Event → Type 0
-Longest breaking picking es = LongestPart breaking picking es (stretch breaking picking es)
 
 -- the queries 0b to 10, which are none of "the eleven calls"
 pub data Query : Call → Type 0 where

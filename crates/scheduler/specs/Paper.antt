@@ -24,6 +24,7 @@ use Rattle.scheduler.specs.declared.answer.TaskOption.{TaskOption}
 use Rattle.scheduler.specs.declared.answer.TaskOption.the-variants as task
 use Rattle.scheduler.specs.declared.answer.Value.{Value}
 use Rattle.scheduler.specs.declared.answer.Value.the-variants as value
+use Rattle.scheduler.specs.State.{noneByte}
 
 -- "status (0 or the refusal)"
 abbrev pub statusNumber : Status → ℕ
@@ -32,16 +33,16 @@ statusNumber (Refused e) = errorCode e
 
 -- "pick slot and pick band (ff ff for none)"
 abbrev pub pickNumbers : PickOption → List ℕ
-pickNumbers pick.None = 255 ∷ 255 ∷ []
+pickNumbers pick.None = noneByte ∷ noneByte ∷ []
 pickNumbers (pick.Some p) = p .slot .0 ∷ bandCode (p .band) ∷ []
 
 -- "a slot or core byte, ff for none"
 abbrev pub slotNumber : SlotOption → ℕ
-slotNumber slot.None = 255
+slotNumber slot.None = noneByte
 slotNumber (slot.Some s) = s .0
 
 abbrev pub coreNumber : CoreOption → ℕ
-coreNumber core.None = 255
+coreNumber core.None = noneByte
 coreNumber (core.Some c) = c
 
 -- "00 or 01"; "in use 1 (0 or 1)"
@@ -50,7 +51,7 @@ flagNumber b = cond b 1 0
 
 -- "target byte (ff idle), cr3 8 (0 if idle)"
 abbrev pub targetNumbers : ContextSwitchTarget → List ℕ
-targetNumbers target.Idle = 255 ∷ 0 ∷ []
+targetNumbers target.Idle = noneByte ∷ 0 ∷ []
 targetNumbers (target.Task slot cr3) = slot .0 ∷ cr3 ∷ []
 
 -- "for plans 00, or 01, previous byte (ff none), target byte (ff idle), cr3 8 (0 if idle)"

@@ -13,7 +13,7 @@ use Rattle.queue.specs.Rules.{entryAt, takenAt}
 use Rattle.scheduler.specs.declared.answer.PickOption.{PickOption}
 use Rattle.scheduler.specs.declared.answer.PickOption.the-variants as pick
 use Rattle.scheduler.specs.declared.answer.Value.the-variants as value
-use Rattle.scheduler.specs.State.{State, nobody, bandOrder, task, queue, firstPlace, withTask, withQueue, withHolder}
+use Rattle.scheduler.specs.State.{State, noneByte, bandOrder, task, queue, firstPlace, withTask, withQueue, withHolder}
 use Rattle.scheduler.specs.Outcome.{Outcome, Chosen, chosenAs}
 
 -- "whose mask has bit c"
@@ -48,10 +48,11 @@ leaves s core band = withQueue s band (takenAt (placeFor s core band) (queue s b
 abbrev pub runsOn : State → ℕ → ℕ → State
 runsOn s core slot = withHolder (withTask s slot (picked (task s slot))) core slot
 
--- "If no queue has one, holder c becomes none and all queues keep their order."
+-- "If no queue has one, holder c becomes none and all queues keep their order. [..] The former holder is not requeued: unless it is the pick its
+-- state stays, so a Running one may be held nowhere."
 abbrev pub afterPick : State → ℕ → PickOption → Chosen
 afterPick s core (pick.Some p) = record { next = slot.Some (p .slot); pick = pick.Some p; state = runsOn (leaves s core (p .band)) core (p .slot .0) }
-afterPick s core pick.None = record { next = slot.None; pick = pick.None; state = withHolder s core nobody }
+afterPick s core pick.None = record { next = slot.None; pick = pick.None; state = withHolder s core noneByte }
 
 -- nobody is chosen, nothing changed
 abbrev pub noChoice : State → Chosen

@@ -35,9 +35,9 @@ recordOf slot.None s = task.None
 recordOf (slot.Some h) s = taskAt (h .0) s
 
 unfoldable pub currentTaskOnCpu : ℕ → State → TaskOption
-currentTaskOnCpu core s = recordOf (holderOf s core) s
+currentTaskOnCpu core s = cond (leb 64 core) task.None (recordOf (holderOf s core) s)
 
--- 10 holder: "answered by the lowest core whose holder it is"; "Slots of 64 and above give [..] ff", 255 too, which in a holder means none
+-- 10 holder: "answered by the lowest core whose holder it is"; "Slots of 64 and above give [..] ff", slot 255 too: in a holder 255 means none
 abbrev pub coreBelow : ℕ → CoreOption
 coreBelow n = cond (leb 64 n) core.None (core.Some n)
 

@@ -29,16 +29,16 @@ pub record State : Type 0 where
 abbrev pub bandOrder : List QoSClass
 bandOrder = UserInteractive ∷ RealTimeIO ∷ Background ∷ []
 
--- "255 for none"
-abbrev pub nobody : ℕ
-nobody = 255
+-- "255 for none", in a holder and, as "ff for none", in an answer
+abbrev pub noneByte : ℕ
+noneByte = 255
 
 -- "New: all records empty, queues empty, no holders, 0."
 abbrev pub newState : State
 newState = record {
   tasks = replicate 64 emptyRecord;
   queues = record { interactive = []; realTime = []; background = [] };
-  holders = replicate 64 nobody;
+  holders = replicate 64 noneByte;
   micros = 0;
 }
 
@@ -59,11 +59,11 @@ queue s band = ofBand (s .queues) band
 
 -- a core's holder; a core of 64 and above has none
 abbrev pub holder : State → ℕ → ℕ
-holder s core = getD (s .holders) core nobody
+holder s core = getD (s .holders) core noneByte
 
 -- the same, as a slot that may be missing
 abbrev pub holderOf : State → ℕ → SlotOption
-holderOf s core = cond (eqb (holder s core) nobody) slot.None (slot.Some (record { 0 = holder s core }))
+holderOf s core = cond (eqb (holder s core) noneByte) slot.None (slot.Some (record { 0 = holder s core }))
 
 -- the place of the first element that passes the test, counted from 0; the length where none passes
 unfoldable pub firstPlace : {A : Type 0} → (A → Bool) → List A → ℕ

@@ -23,9 +23,12 @@ pub record Event : Type 0 where
   pub found : State
   pub answer : Answer
 
+abbrev pub eventOf : Call → State → Event
+eventOf call s = record { call = call; found = s; answer = step call s .answer }
+
 unfoldable pub events : List Call → State → List Event
 events [] s = []
-events (call ∷ calls) s = record { call = call; found = s; answer = step call s .answer } ∷ events calls (step call s .state)
+events (call ∷ calls) s = eventOf call s ∷ events calls (step call s .state)
 
 -- ---- X's stretch
 

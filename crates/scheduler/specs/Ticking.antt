@@ -18,7 +18,7 @@ use Rattle.scheduler.specs.declared.answer.PickOption.the-variants as pi
 use Rattle.scheduler.specs.declared.answer.PlanOption.{PlanOption}
 use Rattle.scheduler.specs.declared.answer.PlanOption.the-variants as plan
 use Rattle.scheduler.specs.declared.answer.Value.the-variants as value
-use Rattle.scheduler.specs.State.{State, nobody, task, holderOf, withTask, withHolder, withMicros}
+use Rattle.scheduler.specs.State.{State, noneByte, task, holderOf, withTask, withHolder, withMicros}
 use Rattle.scheduler.specs.Outcome.{Outcome, Chosen, done, refused, andThen, chosenAs}
 use Rattle.scheduler.specs.Picking.{waitsIn, noChoice, ruleP, answerSlot}
 use Rattle.scheduler.specs.Waking.{enqueue}
@@ -31,7 +31,7 @@ gain elapsed s = withMicros s ((s .micros + elapsed) % 2 ^ 64)
 
 -- "clear it": the core has no holder
 abbrev pub cleared : ℕ → State → State
-cleared core s = withHolder s core nobody
+cleared core s = withHolder s core noneByte
 
 -- "a permitted entry waits in an earlier band"
 abbrev pub waitsBefore : QoSClass → State → ℕ → Bool
@@ -53,15 +53,15 @@ abbrev pub requeued : ℕ → State → State
 requeued h s = enqueue h (withTask s h (withConsumed (task s h) 0)) .state
 
 -- "Else the holder is the answer."
-abbrev pub keepsOn : Slot → ℕ → State → Chosen
-keepsOn h elapsed s = record { next = slot.Some h; pick = pick.None; state = withTask s (h .0) (withConsumed (task s (h .0)) (charged (h .0) elapsed s)) }
+abbrev pub staysHolder : Slot → ℕ → State → Chosen
+staysHolder h elapsed s = record { next = slot.Some h; pick = pick.None; state = withTask s (h .0) (withConsumed (task s (h .0)) (charged (h .0) elapsed s)) }
 
 -- "No holder: P. Holder Blocked: clear it, then P. Otherwise [..]"
 abbrev pub tickHolder : SlotOption → ℕ → ℕ → State → Chosen
 tickHolder slot.None core elapsed s = ruleP core s
 tickHolder (slot.Some h) core elapsed s =
     cond (isState (task s (h .0) .state) Blocked) (ruleP core (cleared core s)) (
-    cond (sliceOver (h .0) elapsed core s) (ruleP core (requeued (h .0) s)) (keepsOn h elapsed s))
+    cond (sliceOver (h .0) elapsed core s) (ruleP core (requeued (h .0) s)) (staysHolder h elapsed s))
 
 -- "Tick on core c, in order: c of 64 or more answers none, nothing changed."
 unfoldable pub ticked : ℕ → ℕ → State → Chosen
@@ -94,13 +94,13 @@ abbrev pub answerPlan : SlotOption → Chosen → Outcome
 answerPlan previous c = chosenAs (value.Plan (planOf previous (c .next) (c .state))) c
 
 -- "a holder that is Running is enqueued and cleared; then P"
-abbrev pub givesWay : Slot → ℕ → State → Outcome
-givesWay h core s = andThen (enqueue (h .0) s) (λ t. answerPlan (slot.Some h) (ruleP core (cleared core t)))
+abbrev pub yieldRunning : Slot → ℕ → State → Outcome
+yieldRunning h core s = andThen (enqueue (h .0) s) (λ t. answerPlan (slot.Some h) (ruleP core (cleared core t)))
 
--- 3 where "its holder [is] not Running". No holder: P, and the previous is none.
+-- 3 for "its holder not Running". No holder: P, and the previous is none.
 abbrev pub yieldHolder : SlotOption → ℕ → State → Outcome
 yieldHolder slot.None core s = answerPlan slot.None (ruleP core s)
-yieldHolder (slot.Some h) core s = cond (not (isState (task s (h .0) .state) Running)) (refused NoSuchTask s) (givesWay h core s)
+yieldHolder (slot.Some h) core s = cond (not (isState (task s (h .0) .state) Running)) (refused NoSuchTask s) (yieldRunning h core s)
 
 -- 08 yield: 3 where "core 64 or above"
 unfoldable pub yield : ℕ → State → Outcome

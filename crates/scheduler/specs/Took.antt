@@ -1,23 +1,28 @@
 -- What P takes in a call: whether the call reaches P, from which state and on which core. Written from document 01's sentences on the five
--- calls that name a core, beside those calls' own rules; proofs/Calls.antt shows that the two agree in every accepted state.
+-- calls that name a core, beside those calls' own rules; of these only P itself and the small changes are used here (an enqueue, a cleared
+-- holder, the microseconds). proofs/Calls.antt shows that the two agree in every accepted state.
 use mathlib.Core.Path.{_≡_}
-use mathlib.Core.Bool.{cond}
-use Prim.Native.Nat.{ℕ}
-use lib.Dec.{leb}
+use mathlib.Core.Bool.{Bool, false, cond, _&&_, _||_}
+use mathlib.Core.List.{List, [], _∷_}
+use Prim.Native.Nat.{ℕ, _+_}
+use lib.Dec.{ltb, leb}
+use Rattle.records.specs.declared.band.QoSClass.{QoSClass}
 use Rattle.records.specs.declared.ids.SlotOption.{SlotOption}
 use Rattle.records.specs.declared.ids.SlotOption.the-variants as slot
 use Rattle.records.specs.declared.state.ThreadState.the-variants.{Ready, Running, Blocked}
+use Rattle.records.specs.Band.{bandCode}
+use Rattle.records.specs.Mask.{permits}
 use Rattle.records.specs.State.{isState}
 use Rattle.records.specs.Task.{withConsumed}
 use Rattle.scheduler.specs.declared.call.Call.{Call}
 use Rattle.scheduler.specs.declared.call.Call.the-variants.{Create, Affinity, Terminate, Block, Wake, Enqueue, Schedule, Tick, Yield, Handoff, Plan, CanRunOnCore, TaskIndexForTid, Task, CurrentTaskOnCpu, SystemTicksUs, Holder}
 use Rattle.scheduler.specs.declared.answer.PickOption.{PickOption}
 use Rattle.scheduler.specs.declared.answer.PickOption.the-variants as pick
-use Rattle.scheduler.specs.State.{State, task, holderOf, withTask}
+use Rattle.scheduler.specs.State.{State, bandOrder, task, queue, holderOf, withTask}
 use Rattle.scheduler.specs.Outcome.{Outcome}
 use Rattle.scheduler.specs.Picking.{ruleP}
 use Rattle.scheduler.specs.Waking.{enqueued}
-use Rattle.scheduler.specs.Ticking.{gain, cleared, sliceOver}
+use Rattle.scheduler.specs.Ticking.{gain, cleared}
 
 pub data Reach : Type 0 where
   -- the call does not come to P
@@ -28,6 +33,18 @@ pub data Reach : Type 0 where
 -- "Rule P, core c below 64"
 abbrev pub below : ℕ → Reach → Reach
 below core r = cond (leb 64 core) unreached r
+
+-- "a permitted entry waits in an earlier band"
+unfoldable pub anyOf : {A : Type 0} → (A → Bool) → List A → Bool
+anyOf test [] = false
+anyOf test (a ∷ rest) = test a || anyOf test rest
+
+abbrev pub earlierWaits : QoSClass → State → ℕ → Bool
+earlierWaits band s core = anyOf (λ b. ltb (bandCode b) (bandCode band) && anyOf (λ slot. permits (task s slot .«cpu_affinity») core) (queue s b)) bandOrder
+
+-- "consumed gains elapsed; if it reaches the budget, or a permitted entry waits in an earlier band"
+abbrev pub switches : ℕ → ℕ → ℕ → State → Bool
+switches h elapsed core s = leb (task s h .«slice_budget_us») (task s h .«consumed_slice_us» + elapsed) || earlierWaits (task s h .qos) s core
 
 -- "consumed becomes 0, the holder is enqueued unless Ready"
 abbrev pub backToQueue : ℕ → State → State
@@ -42,7 +59,7 @@ abbrev pub tickReach : SlotOption → ℕ → ℕ → State → Reach
 tickReach slot.None core elapsed s = reaches s core
 tickReach (slot.Some h) core elapsed s =
     cond (isState (task s (h .0) .state) Blocked) (reaches (cleared core s) core) (
-    cond (sliceOver (h .0) elapsed core s) (reaches (outOfSlice (h .0) s) core) unreached)
+    cond (switches (h .0) elapsed core s) (reaches (outOfSlice (h .0) s) core) unreached)
 
 -- "a holder that is Running is enqueued and cleared; then P"
 abbrev pub yieldReach : SlotOption → ℕ → State → Reach
@@ -82,7 +99,7 @@ takenBy (reaches s core) = ruleP core s .pick
 abbrev pub took : Call → State → PickOption
 took call s = takenBy (reach call s)
 
--- what an outcome owes to P: "the answer carries exactly that pick, or none"
+-- what an outcome has of P: "the answer carries exactly that pick, or none"
 pub record Carries (call : Call) (s : State) (o : Outcome) : Type 0 where
   pub pick-is : o .answer .pick ≡ took call s
   -- where P is reached, the state is the one that P leaves

@@ -14,7 +14,7 @@ use Rattle.records.specs.State.{isState}
 use Rattle.records.specs.Task.{created, withState, withMask, terminated, blocked}
 use Rattle.queue.specs.Rules.{full, pushed, without}
 use Rattle.scheduler.specs.declared.answer.Value.the-variants as value
-use Rattle.scheduler.specs.State.{State, nobody, task, queue, firstPlace, withTask, withQueue, withQueues, eachQueue, withHolders}
+use Rattle.scheduler.specs.State.{State, noneByte, task, queue, firstPlace, withTask, withQueue, withQueues, eachQueue, withHolders}
 use Rattle.scheduler.specs.Outcome.{Outcome, done, refused}
 
 -- "the lowest slot not in use"; the number of slots where every one is in use
@@ -37,17 +37,17 @@ abbrev pub outOfQueues : ℕ → State → State
 outOfQueues slot s = withQueues s (eachQueue (without slot) (s .queues))
 
 abbrev pub released : ℕ → ℕ → ℕ
-released slot h = cond (eqb h slot) nobody h
+released slot h = cond (eqb h slot) noneByte h
 
 abbrev pub outOfHolders : ℕ → State → State
 outOfHolders slot s = withHolders s (map (released slot) (s .holders))
 
 -- 02 terminate: "any slot below 64; Terminated, not in use, taken out of the queues and holders; other fields stay"; 3 as in affinity
-abbrev pub ended : ℕ → State → State
-ended slot s = withTask (outOfQueues slot (outOfHolders slot s)) slot (terminated (task s slot))
+abbrev pub afterTerminate : ℕ → State → State
+afterTerminate slot s = withTask (outOfQueues slot (outOfHolders slot s)) slot (terminated (task s slot))
 
 unfoldable pub terminate : ℕ → State → Outcome
-terminate slot s = cond (leb 64 slot) (refused NoSuchTask s) (done value.Nothing (ended slot s))
+terminate slot s = cond (leb 64 slot) (refused NoSuchTask s) (done value.Nothing (afterTerminate slot s))
 
 -- "slot 64 or above, or not in use"
 abbrev pub missing : State → ℕ → Bool

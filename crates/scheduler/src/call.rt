@@ -27,14 +27,14 @@ pub enum Call {
     Enqueue(Slot),
     // A pick for the core.
     Schedule(usize),
-    // The core's timer: its holder is charged, and may have to make room.
+    // The core's timer: a holder that is not Blocked is charged; answered by who is to run on the core.
     Tick {
         core: usize,
         elapsed_us: u32,
     },
-    // The core's holder goes to the tail of its band, then a pick.
+    // The core's Running holder goes to the tail of its band, then a pick.
     Yield(usize),
-    // The core's holder was blocked: a pick in its place.
+    // A pick in place of the core's Blocked holder; a Running one goes on.
     Handoff(usize),
     // A tick, answered as a plan.
     Plan {
