@@ -34,11 +34,12 @@ pub data Reach : Type 0 where
 abbrev pub below : ℕ → Reach → Reach
 below core r = cond (leb 64 core) unreached r
 
--- "a permitted entry waits in an earlier band"
+-- some element of the list passes
 unfoldable pub anyOf : {A : Type 0} → (A → Bool) → List A → Bool
 anyOf test [] = false
 anyOf test (a ∷ rest) = test a || anyOf test rest
 
+-- "a permitted entry waits in an earlier band"
 abbrev pub earlierWaits : QoSClass → State → ℕ → Bool
 earlierWaits band s core = anyOf (λ b. ltb (bandCode b) (bandCode band) && anyOf (λ slot. permits (task s slot .«cpu_affinity») core) (queue s b)) bandOrder
 
