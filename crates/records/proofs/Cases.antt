@@ -11,7 +11,7 @@ pub by-if : {A : Type 0} (P : A → Type 0) (b : Bool) {x y : A} → (b ≡ true
 by-if P true t f = t refl
 by-if P false t f = f refl
 
--- where one or the other does not hold, neither does
+-- a test for either that fails: both fail
 pub neither : (a b : Bool) → a || b ≡ false → (a ≡ false) × (b ≡ false)
 neither true b e = absurd (true≢false e)
 neither false b e = (refl, e)

@@ -42,7 +42,9 @@ Untouched call x = concern call ≡ changes x → ⊥
 
 -- from s, with this pick, to this end
 pub data Course (call : Call) (s : State) (p : PickOption) (end : State) : Reach → Type 0 where
+  -- P is not reached: nobody is picked, and the change is harmless
   quiet : p ≡ pick.None → Harmless (Untouched call) s end → Course call s p end unreached
+  -- P is reached, on the core that the call names
   reaching : (t : State) (c : ℕ) → c < 64 → concern call ≡ names c → Harmless (Untouched call) s t → p ≡ ruleP c t .pick →
       end ≡ ruleP c t .state → Course call s p end (reaches t c)
 

@@ -34,9 +34,9 @@ use Rattle.scheduler.specs.Picking.{permitted}
 use Rattle.scheduler.specs.Waking.{freeSlot, released, outOfHolders, outOfQueues, afterTerminate, missing, enqueued, enqueue}
 use Rattle.scheduler.specs.Ticking.{waitsBefore, charged, sliceOver, cleared, requeued}
 use Rattle.scheduler.specs.Took.{anyOf, earlierWaits, switches, backToQueue, outOfSlice}
-use Rattle.scheduler.proofs.Invariant.{Good, Invariant, due-idle, not-both, used-in-table, never-full}
+use Rattle.scheduler.proofs.Invariant.{Good, Invariant, due-idle, used-in-table, never-full}
 use Rattle.scheduler.proofs.Lists.{firstPlace-passes, any-first}
-use Rattle.scheduler.proofs.Moves.{Alike, Harmless, stay, then, put, holder-may, to-tail, out, holders, hold}
+use Rattle.scheduler.proofs.Moves.{waits-elsewhere, Harmless, stay, then, put, holder-may, to-tail, out, holders, hold}
 
 -- a slot that is not missing is one of the 64, and in use
 pub present : (s : State) (i : ℕ) → missing s i ≡ false → (i < 64) × (task s i .«in_use» ≡ true)
@@ -48,7 +48,7 @@ present s i here =
 pub idle-in : (t : TaskControlBlock) (st : ThreadState) → isState (t .state) st ≡ true → isState st Ready ≡ false → isState (t .state) Ready ≡ false
 idle-in t st is other = ap (λ (q : ThreadState). isState q Ready) (isState-true (t .state) st is) ∙ other
 
--- a slot not in use is Terminated
+-- a slot not in use does not wait
 free-idle : (t : TaskControlBlock) → Good t → t .«in_use» ≡ false → isState (t .state) Ready ≡ false
 free-idle t good free =
     split (λ _. isState (t .state) Ready ≡ false) (isState (t .state) Terminated)
@@ -70,11 +70,6 @@ switches-is h elapsed c s = ap (λ (b : Bool). leb (task s h .«slice_budget_us�
 -- ---- facts about the state that a call finds
 
 module _ (s : State) (k : Invariant s) where
-  -- a slot that waits is not one that does not
-  waits-elsewhere : {r : TaskControlBlock} (i : ℕ) → isState (task s i .state) Ready ≡ false → (x : ℕ) → task s x .state ≡ Ready → x ≡ i →
-      Alike r (task s i)
-  waits-elsewhere i idle x ready same = absurd (not-both (task s i .state) (ap (λ (j : ℕ). task s j .state) (sym same) ∙ ready) idle)
-
   free-is : freeSlot s < 64 → task s (freeSlot s) .«in_use» ≡ false
   free-is low = not-true (task s (freeSlot s) .«in_use») (firstPlace-passes (λ (t : TaskControlBlock). not (t .«in_use»)) (s .tasks) emptyRecord (omega (arith, k .slots)))
 
@@ -125,7 +120,7 @@ module _ {safe : ℕ → Type 0} (s : State) (k : Invariant s) where
       (record { in-use = refl; mask = λ e. omega arith; budget = inl refl; consumed = slice-positive band })
       (λ b. sym (due-idle b (task s i) idle))
       (λ m. absurd (true≢false (sym (m .used) ∙ free-is s k low)))
-      (λ x _. waits-elsewhere s k i idle x)
+      (λ x _. waits-elsewhere s i idle x)
 
   pub sets-mask : (i mask : ℕ) → i < 64 → ((x : ℕ) → safe x → x ≡ i → ⊥) → Harmless safe s (withTask s i (withMask (task s i) (storedMask mask)))
   sets-mask i mask low apart =
@@ -152,7 +147,7 @@ module _ {safe : ℕ → Type 0} (s : State) (k : Invariant s) where
       (record { in-use = used; mask = k .good i .mask; budget = k .good i .budget; consumed = k .good i .consumed })
       (λ b. sym (due-idle b (task s i) idle))
       (λ m. record { used = m .used; budget-is = m .budget-is })
-      (λ x _. waits-elsewhere s k i idle x)
+      (λ x _. waits-elsewhere s i idle x)
 
   let-go : (i : ℕ) → Harmless safe s (outOfHolders i s)
   let-go i =

@@ -5,6 +5,7 @@
 --   Refusals    a refusal changes nothing; number 2 is never answered
 --   Picks       rule P                                    Waiting     demand 3
 --   Stretches   the stretch is as long as can be          Worked      one stretch, computed
+--   Asked       slots and cores of 64 and above, in queries
 --
 -- How they are shown: Says pairs tests with facts, Lists and Parts are about lists and stores, Invariant is acceptance as the proofs carry it,
 -- Moves are the changes that calls are made of, Effects what each call does, Course every call followed once, Turns one call as X sees it.
@@ -16,6 +17,7 @@ pub mod Picks
 pub mod Waiting
 pub mod Stretches
 pub mod Worked
+pub mod Asked
 mod Says
 mod Lists
 mod Parts

@@ -1,11 +1,12 @@
--- Laws about lists of entries: the first place that passes a test, distinct numbers, the entries before one, and parts of a list in its order. The heart of the
--- waiting bound is `passed`: where an entry is taken that stands before x, what is then left before x stood before it. Assumes nothing.
+-- Laws about lists of entries: the first place that passes a test, distinct numbers, the entries before one, and parts of a list in its
+-- order. The heart of the waiting bound is `passed`: where an entry is taken that stands before x, what is then left before x stood behind that
+-- entry, and the order is kept. Assumes nothing.
 use mathlib.Core.Path.{_≡_, refl, sym, ap, _∙_}
 use mathlib.Core.Bool.{Bool, true, false, cond, true≢false, _||_}
 use mathlib.Core.List.{List, [], _∷_, _++_, Sublistᴰ, Sublistᴰ·slnil, Sublistᴰ·cons, Sublistᴰ·cons-cons, Sublistᴰ·refl}
 use Prim.Native.Nat.{ℕ, zero, suc, _+_, _≤_, _<_}
 use native.Mathlib.Omega.{arith}
-use borrow.Author.Tests.{eqb-true, eqb-false, eq-eqb, ne-eqb, lt-ltb}
+use borrow.Author.Tests.{eqb-true, eqb-false, ne-eqb, lt-ltb}
 use lib.Dec.{ltb, eqb, leb·suc-suc}
 use lib.ListN.{length, getD}
 use Rattle.records.proofs.Cases.{split}
@@ -93,8 +94,9 @@ pub bounded : (n : ℕ) (es : List ℕ) → ((i : ℕ) → 1 ≤ count i es → 
 bounded zero [] below once = omega arith
 bounded zero (e ∷ es) below once = absurd (omega (arith, below e (count-entry 0 (e ∷ es) (omega arith))))
 bounded (suc n) es below once =
-    let last-gone : (i : ℕ) → 1 ≤ count i (without n es) → i ≡ n → ⊥ = λ i h same. let none : count i (without n es) ≡ 0 = ap (λ (k : ℕ). count k (without n es)) same ∙ count-without-same n es in omega arith in
-    let lower : (i : ℕ) → 1 ≤ count i (without n es) → i < n = λ i h. let low : i < suc n = below i (omega (arith, count-without-le n i es)) in omega (arith, last-gone i h) in
+    let gone : (i : ℕ) → i ≡ n → count i (without n es) ≡ 0 = λ i same. ap (λ (j : ℕ). count j (without n es)) same ∙ count-without-same n es in
+    let not-n : (i : ℕ) → 1 ≤ count i (without n es) → i ≡ n → ⊥ = λ i h same. omega (arith, gone i same) in
+    let lower : (i : ℕ) → 1 ≤ count i (without n es) → i < n = λ i h. omega (arith, below i (omega (arith, count-without-le n i es)), not-n i h) in
     let once-still : (i : ℕ) → count i (without n es) ≤ 1 = λ i. omega (arith, count-without-le n i es, once i) in
     omega (arith, length-without n es, once n, bounded n (without n es) lower once-still)
 
@@ -130,10 +132,6 @@ sub-skip [] h = h
 sub-skip (e ∷ f) h = Sublistᴰ·cons (sub-skip f h)
 
 -- ---- the entries before x
-
-pub before-here : (x : ℕ) (l : List ℕ) → before x (x ∷ l) ≡ []
-unfolding before
-before-here x l = rw (eq-eqb x x refl)
 
 pub before-other : (x e : ℕ) (l : List ℕ) → (e ≡ x → ⊥) → before x (e ∷ l) ≡ e ∷ before x l
 unfolding before

@@ -32,6 +32,11 @@ pub record Alike (r t : TaskControlBlock) : Type 0 where
   pub band : r .qos ≡ t .qos
   pub mask : r .«cpu_affinity» ≡ t .«cpu_affinity»
 
+-- a slot that waits is not one that does not
+pub waits-elsewhere : {r : TaskControlBlock} (s : State) (i : ℕ) → isState (task s i .state) Ready ≡ false → (x : ℕ) → task s x .state ≡ Ready →
+    x ≡ i → Alike r (task s i)
+waits-elsewhere s i idle x ready same = absurd (not-both (task s i .state) (ap (λ (j : ℕ). task s j .state) (sym same) ∙ ready) idle)
+
 pub record Undisturbed (x : ℕ) (s t : State) : Type 0 where
   pub alike : Alike (task t x) (task s x)
   pub order : Sublistᴰ (before x (queue t (task s x .qos))) (before x (queue s (task s x .qos)))
@@ -178,7 +183,7 @@ module _ {safe : ℕ → Type 0} (s : State) (k : Invariant s) where
     own = tail-own s k i used idle;
     rest = tail-rest s k i used idle;
     may = λ core same. let m : MayHold (task s i) = holder-may s k core i (used-in-table s (k .slots) i used) same in record { used = m .used; budget-is = m .budget-is };
-    alike = λ x _ ready same. absurd (not-both (task s i .state) (ap (λ (j : ℕ). task s j .state) (sym same) ∙ ready) idle);
+    alike = λ x _. waits-elsewhere s i idle x;
     order = λ x _ _. tail-order s k i used idle x;
   })
 

@@ -168,7 +168,7 @@ pub P-below : (s : State) (core : ℕ) → core < 64 → ruleP core s ≡ afterP
 unfolding ruleP
 P-below s core low = rw (lt-leb 64 core low)
 
--- P leaves an accepted state accepted
+-- P keeps the invariant
 pub P-invariant : (s : State) → Invariant s → (core : ℕ) → core < 64 → Invariant (ruleP core s .state)
 P-invariant s k core low = subst (λ (c : Chosen). Invariant (c .state)) (sym (P-below s core low)) (after (choice-is s core))
   where

@@ -124,6 +124,8 @@ refused-whole call s e r =
 pub never-2 : (call : Call) (s : State) → Accepted s → step call s .answer .status ≡ Refused QueueFull → ⊥
 never-2 call s a r =
     let NotTwo : SchedError → Type 0 = λ (f : SchedError). errorCode f ≡ 2 → ⊥ in
-    let room : (i : ℕ) → missing s i ≡ false → isState (task s i .state) Ready ≡ false → full (queue s (task s i .qos)) ≡ false = λ i here idle. room-in-queue s a (task s i .qos) i (present s i here .0) idle in
-    let never : May NotTwo s = record { other = λ _ not-two. not-two; two = λ i here idle none-left _. true≢false (sym none-left ∙ room i here idle) } in
+    let never : May NotTwo s = record {
+      other = λ _ not-two. not-two;
+      two = λ i here idle none-left _. true≢false (sym none-left ∙ room-in-queue s a (task s i .qos) i (present s i here .0) idle);
+    } in
     refused-as NotTwo s (step call s) (ending NotTwo s never call) QueueFull r .0 refl

@@ -90,11 +90,13 @@ module _ (s : State) (k : Invariant s) (x : ℕ) (ready : task s x .state ≡ Re
     waits-behind differs =
         let other : x ≡ i → ⊥ = λ same. eqb-false i x differs (sym same) in
         let calm : Undisturbed x s t = pick-held s k c p is low .undisturbed x (other, may) ready in
-        let passed-by : Sublistᴰ (cond (eqb (bandCode (p .band)) (bandCode mine) && true) (i ∷ before x (queue t mine)) (before x (queue t mine))) (before x (queue s mine)) =
-        split (λ (b : Bool). Sublistᴰ (cond (b && true) (i ∷ before x (queue t mine)) (before x (queue t mine))) (before x (queue s mine))) (eqb (bandCode (p .band)) (bandCode mine))
-        (λ same. own-band other (bandCode-one (p .band) mine (eqb-true (bandCode (p .band)) (bandCode mine) same)))
-        (λ _. calm .order) in
-        record { alike = calm .alike; order = rw differs passed-by }
+        record {
+          alike = calm .alike;
+          order = rw differs (
+              split (λ (b : Bool). Sublistᴰ (cond (b && true) (i ∷ before x (queue t mine)) (before x (queue t mine))) (before x (queue s mine))) (eqb (bandCode (p .band)) (bandCode mine))
+              (λ same. own-band other (bandCode-one (p .band) mine (eqb-true (bandCode (p .band)) (bandCode mine) same)))
+              (λ _. calm .order));
+        }
 
     turn-taken : Turn x s (pick.Some p) t
     turn-taken = record { bands = λ q e. let same : p ≡ q = cc in subst (λ (r : Pick). bandCode (r .band) ≤ bandCode mine) same not-behind; goes = waits-behind }
