@@ -1,10 +1,44 @@
--- What every stored queue keeps to. Assumes nothing.
-use Prim.Native.Nat.{_≤_}
+-- What every stored queue keeps to, and that every list of at most 64 entries is stored by some queue: it stands at the front of the ring, and
+-- zeros fill the places behind it. Assumes nothing.
+use mathlib.Core.Path.{_≡_, ap, _∙_}
+use mathlib.Core.List.{List, _++_}
+use Prim.Native.Nat.{ℕ, _+_, _-_, _%_, _≤_, _<_}
 use native.Mathlib.Omega.{arith}
-use lib.ListN.{length}
+use lib.ListN.{length, getD, replicate, length-append, length-replicate, List·getD-append}
+use lib.Seq.{ext-getD}
 use Rattle.queue.specs.declared.BandQueue.{BandQueue}
-use Rattle.queue.specs.Stored.{entries, WellFormed}
+use Rattle.queue.specs.Stored.{window, entries, WellFormed, Holds}
 use Rattle.queue.proofs.Places.{length-entries}
+use Rattle.queue.proofs.Ring.{length-window, window-at}
 
 pub entries-bounded : (q : BandQueue) → WellFormed q → length (entries q) ≤ 64
 entries-bounded q good = omega (arith, length-entries q)
+
+-- ---- every list of at most 64 entries is stored
+
+-- what stands at the front of a list is the window there
+window-front-part : (es pad : List ℕ) → length es ≤ 64 → window (es ++ pad) 0 (length es) ≡ es
+window-front-part es pad small =
+    let ring : List ℕ = es ++ pad in
+    let long : length (window ring 0 (length es)) ≡ length es = length-window ring 0 (length es) in
+    ext-getD 0 (window ring 0 (length es)) es long (λ i l.
+    let low : i < length es = omega (arith, long) in
+    let place : (0 + i) % 64 ≡ i = omega arith in
+    window-at ring 0 (length es) i low ∙ ap (λ (p : ℕ). getD ring p 0) place ∙ List·getD-append es pad 0 i low)
+
+-- 64 places: the entries, and zeros behind them
+abbrev padded : List ℕ → List ℕ
+padded es = es ++ replicate (64 - length es) 0
+
+length-padded : (es : List ℕ) → length es ≤ 64 → length (padded es) ≡ 64
+length-padded es small = omega (arith, length-append es (replicate (64 - length es) 0), length-replicate {A = ℕ} (64 - length es) 0)
+
+pub stored : (es : List ℕ) → length es ≤ 64 → (q : BandQueue) × Holds q es
+unfolding entries
+stored es small = (
+  record { ring = padded es; head = 0; len = length es },
+  record {
+    well-formed = record { whole = length-padded es small; head-in = omega arith; len-in = small };
+    entries-are = window-front-part es (replicate (64 - length es) 0) small;
+  },
+)

@@ -5,7 +5,7 @@
 --   Refusals    a refusal changes nothing; number 2 is never answered
 --   Picks       rule P                                    Waiting     demand 3
 --   Stretches   the stretch is as long as can be          Worked      one stretch, computed
---   Asked       slots and cores of 64 and above, in queries
+--   Histories   demands 2 and 3 on the code               Asked       slots and cores of 64 and above, in queries
 --
 -- How they are shown: Says pairs tests with facts, Lists and Parts are about lists and stores, Invariant is acceptance as the proofs carry it,
 -- Moves are the changes that calls are made of, Effects what each call does, Course every call followed once, Turns one call as X sees it.
@@ -18,6 +18,7 @@ pub mod Waiting
 pub mod Stretches
 pub mod Worked
 pub mod Asked
+pub mod Histories
 mod Says
 mod Lists
 mod Parts
@@ -26,3 +27,13 @@ mod Moves
 mod Effects
 mod Course
 mod Turns
+mod Searches
+mod Stored
+mod Promises
+mod OnSlots
+mod Seeking
+mod OnCores
+mod OnTicks
+mod Answers
+mod Removals
+mod OnPlans

@@ -108,8 +108,8 @@ module _ (s : State) (k : Invariant s) (core : ℕ) (p : Pick) (is : firstPermit
   was-ready : ReadyOf (p .band) (task s i)
   was-ready = entry-ready s k (p .band) i counted
 
-  low : i < 64
-  low = ready-in-table s (k .slots) i (was-ready .ready)
+  pub pick-low : i < 64
+  pick-low = ready-in-table s (k .slots) i (was-ready .ready)
 
   used : task s i .«in_use» ≡ true
   used = k .good i .in-use ∙ ap (λ (st : ThreadState). not (isState st Terminated)) (was-ready .ready)
@@ -132,7 +132,7 @@ module _ (s : State) (k : Invariant s) (core : ℕ) (p : Pick) (is : firstPermit
 
   pub pick-harmless : Harmless (λ (x : ℕ). (x ≡ i → ⊥) × (permitted s core x ≡ true)) s (withTask (leaves s core (p .band)) i (picked (task s i)))
   pick-harmless = move s k i (picked (task s i)) (withBand (s .queues) (p .band) rest) (record {
-    low = low;
+    low = pick-low;
     good = record { in-use = used; mask = k .good i .mask; budget = inr refl; consumed = slice-positive (task s i .qos) };
     own = each-queue (λ (b : QoSClass) (l : List ℕ). count i l ≡ 0) (s .queues) (p .band) rest
         (let gone : count i rest ≡ 0 = omega (arith, fewer i, count-one i, k .queued (p .band) i, due-small (p .band) (task s i)) in gone)
@@ -153,7 +153,7 @@ module _ (s : State) (k : Invariant s) (core : ℕ) (p : Pick) (is : firstPermit
   pub pick-held : core < 64 → Harmless (λ (x : ℕ). (x ≡ i → ⊥) × (permitted s core x ≡ true)) s (afterPick s core (pick.Some p) .state)
   pick-held below =
       let t : State = withTask (leaves s core (p .band)) i (picked (task s i)) in
-      let stored : task t i ≡ picked (task s i) = getD-set-same (s .tasks) i (picked (task s i)) emptyRecord (omega (arith, k .slots, low)) in
+      let stored : task t i ≡ picked (task s i) = getD-set-same (s .tasks) i (picked (task s i)) emptyRecord (omega (arith, k .slots, pick-low)) in
       then s t (afterPick s core (pick.Some p) .state) pick-harmless
       (hold t (pick-harmless .invariant) core i below (inr (subst MayHold (sym stored) (record { used = used; budget-is = refl }))))
 

@@ -8,6 +8,7 @@
 --   Took       what P takes in a call                    Paper      an answer's numbers
 --   Stretch    X's stretch, its picks, those before X    Demand3    what is claimed of every list
 --   Longest    what keeps the stretch from being cut short
+--   Scheduler  the stored scheduler, and what every call promises of it
 pub mod State
 pub mod Accepted
 pub mod Outcome
@@ -21,3 +22,5 @@ pub mod Paper
 pub mod Stretch
 pub mod Demand3
 pub mod Longest
+pub mod Scheduler
+pub mod History

@@ -15,13 +15,20 @@ pub record Outcome : Type 0 where
   pub answer : Answer
   pub state : State
 
+-- done, with the pick made and a value
+abbrev pub answered : PickOption → Value → Answer
+answered p v = record { status = Done; pick = p; value = v }
+
 -- done, and nobody was picked
 abbrev pub done : Value → State → Outcome
-done v s = record { answer = record { status = Done; pick = pick.None; value = v }; state = s }
+done v s = record { answer = answered pick.None v; state = s }
 
 -- refused: no pick, no value, the state as it was
+abbrev pub refusal : SchedError → Answer
+refusal e = record { status = Refused e; pick = pick.None; value = value.Nothing }
+
 abbrev pub refused : SchedError → State → Outcome
-refused e s = record { answer = record { status = Refused e; pick = pick.None; value = value.Nothing }; state = s }
+refused e s = record { answer = refusal e; state = s }
 
 -- a refusal ends the call; otherwise it goes on from the state reached
 abbrev pub goOn : Status → Outcome → (State → Outcome) → Outcome
@@ -39,4 +46,4 @@ pub record Chosen : Type 0 where
 
 -- a choice, answered with a value
 abbrev pub chosenAs : Value → Chosen → Outcome
-chosenAs v c = record { answer = record { status = Done; pick = c .pick; value = v }; state = c .state }
+chosenAs v c = record { answer = answered (c .pick) v; state = c .state }

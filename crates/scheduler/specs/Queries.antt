@@ -22,8 +22,11 @@ canRunOnCore slot core s = cond (leb 64 slot) false (permits (state.task s slot 
 abbrev pub slotBelow : ℕ → SlotOption
 slotBelow n = cond (leb 64 n) slot.None (slot.Some (record { 0 = n }))
 
+abbrev pub hasTid : ℕ → TaskControlBlock → Bool
+hasTid tid t = t .«in_use» && eqb (t .tid .0) tid
+
 unfoldable pub taskIndexForTid : ℕ → State → SlotOption
-taskIndexForTid tid s = slotBelow (firstPlace (λ (t : TaskControlBlock). t .«in_use» && eqb (t .tid .0) tid) (s .tasks))
+taskIndexForTid tid s = slotBelow (firstPlace (hasTid tid) (s .tasks))
 
 -- 0d `task`: the record; "Slots of 64 and above give 00"
 unfoldable pub taskAt : ℕ → State → TaskOption

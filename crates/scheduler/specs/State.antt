@@ -62,8 +62,11 @@ abbrev pub holder : State → ℕ → ℕ
 holder s core = getD (s .holders) core noneByte
 
 -- the same, as a slot that may be missing
+abbrev pub holderIn : ℕ → SlotOption
+holderIn number = cond (eqb number noneByte) slot.None (slot.Some (record { 0 = number }))
+
 abbrev pub holderOf : State → ℕ → SlotOption
-holderOf s core = cond (eqb (holder s core) noneByte) slot.None (slot.Some (record { 0 = holder s core }))
+holderOf s core = holderIn (holder s core)
 
 -- the place of the first element that passes the test, counted from 0; the length where none passes
 unfoldable pub firstPlace : {A : Type 0} → (A → Bool) → List A → ℕ

@@ -1,4 +1,6 @@
 // What a call answers: a status, the pick that was made, and a value.
+ghost use mathlib.Core.Path.{_≡_};
+ghost use Rattle.scheduler.specs.Outcome.{answered, refusal};
 use records::QoSClass;
 use records::SchedError;
 use records::Slot;
@@ -10,6 +12,30 @@ pub struct Answer {
     // What the picking rule took in this call.
     pub pick: PickOption,
     pub value: Value,
+}
+
+impl Answer {
+    // Done, with the pick made and a value.
+    pub(crate) fn done(pick: PickOption, value: Value) -> Self
+        ensures { λ r. ⌜ r ≡ answered pick value ⌝ }
+    {
+        Answer {
+            status: Status::Done,
+            pick,
+            value,
+        }
+    }
+
+    // Refused: no pick and no value.
+    pub(crate) fn refused(error: SchedError) -> Self
+        ensures { λ r. ⌜ r ≡ refusal error ⌝ }
+    {
+        Answer {
+            status: Status::Refused(error),
+            pick: PickOption::None,
+            value: Value::Nothing,
+        }
+    }
 }
 
 pub enum Status {

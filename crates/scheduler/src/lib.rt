@@ -1,11 +1,21 @@
 // The scheduler of document 01: who runs on which core, and for how long.
 //
-//   call     Call: every call and query, with its arguments
-//   answer   Answer: status, the pick made, and the value; plans and what may be missing
+//   call      Call: every call and query, with its arguments
+//   answer    Answer: status, the pick made, and the value; plans and what may be missing
+//   scheduler QoSScheduler: the state, by value; new; apply, which does any call
+//   waking    create, affinity, terminate, block, wake, enqueue
+//   picking   schedule
+//   ticking   tick, yield, handoff, plan
+//   queries   what changes nothing
 //
 // specs/ has document 01's rules as definitions over these types; proofs/ has the laws that hold for all of them.
 mod answer;
 mod call;
+mod picking;
+mod queries;
+mod scheduler;
+mod ticking;
+mod waking;
 
 pub use answer::Answer;
 pub use answer::ContextSwitchPlan;
@@ -18,3 +28,5 @@ pub use answer::Status;
 pub use answer::TaskOption;
 pub use answer::Value;
 pub use call::Call;
+pub use scheduler::QoSScheduler;
+pub use scheduler::Reply;

@@ -1,0 +1,184 @@
+-- The new scheduler, the queries and the private parts meet their contract: a law for each way out of the code. `s` is the scheduler that is
+-- asked, and the reads' defaults are whatever the code takes. Assumes nothing.
+use mathlib.Core.Path.{_≡_, refl, sym, ap, _∙_, subst}
+use mathlib.Core.Bool.{Bool, true, false, cond}
+use mathlib.Core.List.{[]}
+use mathlib.Core.Logic.{⊎-elim}
+use Prim.Native.Nat.{ℕ, _≤_, _<_}
+use native.Mathlib.Omega.{arith}
+use borrow.Author.Tests.{le-leb, lt-leb, eq-eqb, ne-eqb, eqb-false}
+use lib.Dec.{eqb}
+use lib.ListN.{getD, replicate}
+use Rattle.records.specs.declared.ids.Slot.{Slot}
+use Rattle.records.specs.declared.ids.SlotOption.{SlotOption}
+use Rattle.records.specs.declared.ids.SlotOption.the-variants as slot
+use Rattle.records.specs.declared.task.TaskControlBlock.{TaskControlBlock}
+use Rattle.records.specs.Mask.{permits}
+use Rattle.records.specs.Task.{emptyRecord}
+use Rattle.records.proofs.Cases.{split}
+use Rattle.queue.specs.declared.BandQueue.{BandQueue}
+use Rattle.queue.specs.Stored.{Holds}
+use Rattle.scheduler.specs.declared.answer.Answer.{Answer}
+use Rattle.scheduler.specs.declared.answer.ContextSwitchTarget.{ContextSwitchTarget}
+use Rattle.scheduler.specs.declared.answer.ContextSwitchTarget.the-variants.{Task, Idle}
+use Rattle.scheduler.specs.declared.answer.CoreOption.the-variants as core
+use Rattle.scheduler.specs.declared.answer.PlanOption.{PlanOption}
+use Rattle.scheduler.specs.declared.answer.PlanOption.the-variants as plan
+use Rattle.scheduler.specs.declared.answer.TaskOption.the-variants as task
+use Rattle.scheduler.specs.declared.answer.Value.the-variants as value
+use Rattle.scheduler.specs.declared.scheduler.QoSScheduler.{QoSScheduler}
+use Rattle.scheduler.specs.declared.scheduler.Reply.{Reply}
+use Rattle.scheduler.specs.State as state
+use Rattle.scheduler.specs.State.{State, noneByte, newState, holder, holderIn, holderOf, firstPlace}
+use Rattle.scheduler.specs.Accepted.{Accepted, MayHold}
+use Rattle.scheduler.specs.Outcome.{answered}
+use Rattle.scheduler.specs.Queries.{canRunOnCore, hasTid, taskIndexForTid, taskAt, recordOf, currentTaskOnCpu, coreOf}
+use Rattle.scheduler.specs.Ticking.{targetOf, same, planOf}
+use Rattle.scheduler.specs.Waking.{released}
+use Rattle.scheduler.specs.Demand3.{Each}
+use Rattle.scheduler.specs.Scheduler.{queuesOf, abs, Valid, IsNew, planFrom}
+use Rattle.scheduler.proofs.Calls.{new-accepted}
+use Rattle.scheduler.proofs.Invariant.{used-in-table}
+use Rattle.scheduler.proofs.Searches.{search-found}
+use Rattle.scheduler.proofs.Stored.{slots, record-at, holder-at}
+
+-- ---- the new scheduler
+
+module _ {q : BandQueue} (h : Holds q []) where
+  abbrev made : QoSScheduler
+  made = record { tasks = replicate 64 emptyRecord; queues = replicate 3 q; current = replicate 64 noneByte; «system_ticks_us» = 0 }
+
+  made-is : abs made ≡ newState
+  unfolding abs queuesOf
+  made-is = λ i. record {
+    tasks = replicate 64 emptyRecord;
+    queues = record { interactive = h .entries-are i; realTime = h .entries-are i; background = h .entries-are i };
+    holders = replicate 64 noneByte;
+    micros = 0;
+  }
+
+  pub new-made : IsNew made
+  unfolding Each
+  new-made = record {
+    valid = record {
+      whole = record { bands = refl; rings = (h .well-formed, (h .well-formed, (h .well-formed, tt))) };
+      accepted = subst Accepted (sym made-is) new-accepted;
+    };
+    state-is = made-is;
+  }
+
+-- ---- a number that stands for a slot or for none
+
+pub holder-none : (n : ℕ) → n ≡ noneByte → slot.None ≡ holderIn n
+holder-none n is = rw (eq-eqb n noneByte is) refl
+
+pub holder-some : (n : ℕ) → (n ≡ noneByte → ⊥) → slot.Some (record { 0 = n }) ≡ holderIn n
+holder-some n other = rw (ne-eqb n noneByte other) refl
+
+pub released-same : (slot n : ℕ) → n ≡ slot → noneByte ≡ released slot n
+released-same slot n is = rw (eq-eqb n slot is) refl
+
+pub released-other : (slot n : ℕ) → (n ≡ slot → ⊥) → n ≡ released slot n
+released-other slot n other = rw (ne-eqb n slot other) refl
+
+pub same-slots : {one other : SlotOption} {a b : Slot} → one ≡ slot.Some a → other ≡ slot.Some b → eqb (a .0) (b .0) ≡ same one other
+same-slots one-is other-is = λ i. same (sym one-is i) (sym other-is i)
+
+-- ---- a slot's record
+
+pub tid-in-use : (tid : ℕ) (t : TaskControlBlock) → t .«in_use» ≡ true → eqb (t .tid .0) tid ≡ hasTid tid t
+tid-in-use tid t used = rw used refl
+
+module _ {s : QoSScheduler} (v : Valid s) {n : ℕ} (d : TaskControlBlock) (low : n < 64) where
+  read-is : getD (s .tasks) n d ≡ state.task (abs s) n
+  read-is = record-at s v n d low
+
+  pub slot-runs : (core : ℕ) {r : Bool} → r ≡ permits (getD (s .tasks) n d .«cpu_affinity») core → r ≡ canRunOnCore n core (abs s)
+  unfolding canRunOnCore
+  slot-runs core is = rw (lt-leb 64 n low) (rw (sym read-is) is)
+
+  pub slot-record : task.Some (getD (s .tasks) n d) ≡ taskAt n (abs s)
+  unfolding taskAt
+  slot-record = rw (lt-leb 64 n low) (ap task.Some read-is)
+
+-- ---- the lowest slot with a tid, and the lowest core with a slot
+
+module _ {s : QoSScheduler} (v : Valid s) (tid : ℕ) {k : ℕ} (so-far : k ≤ firstPlace (hasTid tid) (s .tasks)) where
+  pub tid-found : (d : TaskControlBlock) {b : Bool} → k < 64 → b ≡ hasTid tid (getD (s .tasks) k d) → b ≡ true → slot.Some (record { 0 = k }) ≡ taskIndexForTid tid (abs s)
+  unfolding taskIndexForTid abs
+  tid-found d low b-is passes =
+      let found : firstPlace (hasTid tid) (s .tasks) ≡ k = search-found (hasTid tid) (s .tasks) k d so-far (omega (arith, slots s v)) (sym b-is ∙ passes) in
+      rw found (rw (lt-leb 64 k low) refl)
+
+  pub tid-missing : 64 ≤ k → slot.None ≡ taskIndexForTid tid (abs s)
+  unfolding taskIndexForTid abs
+  tid-missing past = rw (le-leb 64 (firstPlace (hasTid tid) (s .tasks)) (omega arith)) refl
+
+module _ (s : QoSScheduler) {n k : ℕ} (low : n < 64) (k-is : k ≡ firstPlace (λ (h : ℕ). eqb h n) (s .current)) where
+  pub no-core-holds : 64 ≤ k → core.None ≡ coreOf n (abs s)
+  unfolding coreOf abs
+  no-core-holds past = rw (lt-leb 64 n low) (rw (sym k-is) (rw (le-leb 64 k past) refl))
+
+  pub core-holds : k < 64 → core.Some k ≡ coreOf n (abs s)
+  unfolding coreOf abs
+  core-holds below = rw (lt-leb 64 n low) (rw (sym k-is) (rw (lt-leb 64 k below) refl))
+
+-- ---- a core's holder
+
+-- a number that stands for a slot is the slot's
+stands-for : (n : ℕ) (h : Slot) → holderIn n ≡ slot.Some h → (n ≡ h .0) × (n ≡ noneByte → ⊥)
+stands-for n h =
+    split (λ (b : Bool). cond b slot.None (slot.Some (record { 0 = n })) ≡ slot.Some h → (n ≡ h .0) × (n ≡ noneByte → ⊥)) (eqb n noneByte)
+    (λ _ e. let no : _≡_ {A = ℕ} 0 1 = cc in absurd (omega arith))
+    (λ other e. let is : _≡_ {A = Slot} (record { 0 = n }) h = cc in (ap (λ (x : Slot). x .0) is, eqb-false n noneByte other))
+
+-- a holder is a slot of the table
+below : (s : State) → Accepted s → (c : ℕ) → c < 64 → (h : Slot) → holderOf s c ≡ slot.Some h → h .0 < 64
+below s a c low h is =
+    let found : (holder s c ≡ h .0) × (holder s c ≡ noneByte → ⊥) = stands-for (holder s c) h is in
+    ⊎-elim
+    (λ (none : holder s c ≡ noneByte). absurd (found .1 none))
+    (λ (m : MayHold (state.task s (holder s c))). subst (λ (n : ℕ). n < 64) (found .0) (used-in-table s (a .slots) (holder s c) (m .used)))
+    (a .holders c low)
+
+module _ {s : QoSScheduler} (v : Valid s) {c : ℕ} (low : c < 64) (d : ℕ) {o : SlotOption} (o-is : o ≡ holderIn (getD (s .current) c d)) where
+  held : o ≡ holderOf (abs s) c
+  held = o-is ∙ ap holderIn (holder-at s v c d low)
+
+  pub holder-below : {h : Slot} → o ≡ slot.Some h → h .0 < 64
+  holder-below {h} is = below (abs s) (v .accepted) c low h (sym held ∙ is)
+
+  pub core-idle : o ≡ slot.None → task.None ≡ currentTaskOnCpu c (abs s)
+  unfolding currentTaskOnCpu
+  core-idle none = rw (lt-leb 64 c low) (ap (λ (p : SlotOption). recordOf p (abs s)) (sym none ∙ held))
+
+  pub core-record : {h : Slot} → o ≡ slot.Some h → (dt : TaskControlBlock) → task.Some (getD (s .tasks) (h .0) dt) ≡ currentTaskOnCpu c (abs s)
+  unfolding currentTaskOnCpu
+  core-record {h} is dt =
+      rw (lt-leb 64 c low) (slot-record v dt (holder-below is) ∙ ap (λ (p : SlotOption). recordOf p (abs s)) (sym is ∙ held))
+
+  pub target-idle : o ≡ slot.None → Idle ≡ targetOf (holderOf (abs s) c) (abs s)
+  target-idle none = ap (λ (p : SlotOption). targetOf p (abs s)) (sym none ∙ held)
+
+  pub target-slot : {h : Slot} → o ≡ slot.Some h → (dt : TaskControlBlock) → Task h (getD (s .tasks) (h .0) dt .cr3) ≡ targetOf (holderOf (abs s) c) (abs s)
+  target-slot {h} is dt =
+      ap (λ (t : TaskControlBlock). Task h (t .cr3)) (record-at s v (h .0) dt (holder-below is))
+      ∙ ap (λ (p : SlotOption). targetOf p (abs s)) (sym is ∙ held)
+
+  -- whether there is a plan, the core's holder being `o` now
+  tested : (previous : SlotOption) {b : Bool} → b ≡ same previous o → same previous (holderOf (abs s) c) ≡ b
+  tested previous b-is = ap (same previous) (sym held) ∙ sym b-is
+
+  pub plan-same : (previous : SlotOption) {b : Bool} → b ≡ same previous o → b ≡ true → plan.None ≡ planOf previous (holderOf (abs s) c) (abs s)
+  plan-same previous b-is equal = rw (tested previous b-is ∙ equal) refl
+
+  pub plan-other : (previous : SlotOption) {b : Bool} {t : ContextSwitchTarget} → b ≡ same previous o → b ≡ false → t ≡ targetOf (holderOf (abs s) c) (abs s) →
+      plan.Some (record { «prev_task_idx» = previous; target = t }) ≡ planOf previous (holderOf (abs s) c) (abs s)
+  plan-other previous b-is other t-is =
+      rw (tested previous b-is ∙ other) (λ i. plan.Some (record { «prev_task_idx» = previous; target = t-is i }))
+
+-- a reply told as a plan
+pub plan-told : (previous : SlotOption) (c : ℕ) (reply : Reply) {a : Answer} {p : PlanOption} → a ≡ answered (reply .answer .pick) (value.Plan p) →
+    p ≡ planOf previous (holderOf (abs (reply .state)) c) (abs (reply .state)) → _≡_ {A = Reply} (record { answer = a; state = reply .state }) (planFrom previous c reply)
+plan-told previous c reply a-is p-is =
+    λ i. record { answer = (a-is ∙ ap (λ (x : PlanOption). answered (reply .answer .pick) (value.Plan x)) p-is) i; state = reply .state }

@@ -1,0 +1,123 @@
+-- The calls on cores meet their contract: a law for each way out of the code. Assumes nothing.
+use mathlib.Core.Path.{_≡_, refl, sym, ap, _∙_, subst}
+use mathlib.Core.Bool.{Bool, true, false}
+use mathlib.Core.List.{List}
+use Prim.Native.Nat.{ℕ, _+_, _≤_, _<_}
+use native.Mathlib.Omega.{arith}
+use lib.ListN.{length, getD, set}
+use Rattle.records.specs.declared.band.QoSClass.{QoSClass}
+use Rattle.records.specs.declared.ids.Slot.{Slot}
+use Rattle.records.specs.declared.ids.SlotOption.{SlotOption}
+use Rattle.records.specs.declared.ids.SlotOption.the-variants as slot
+use Rattle.records.specs.declared.task.TaskControlBlock.{TaskControlBlock}
+use Rattle.records.specs.Band.{bandCode}
+use Rattle.records.specs.Mask.{permits}
+use Rattle.records.specs.Task.{picked}
+use Rattle.queue.specs.declared.BandQueue.{BandQueue}
+use Rattle.queue.specs.declared.Taken.{Taken}
+use Rattle.queue.specs.Answers.{Take}
+use Rattle.queue.specs.Rules.{entryAt, takenAt}
+use Rattle.queue.specs.Stored.{entries, Holds}
+use Rattle.queue.proofs.Rules.{entryAt-some}
+use Rattle.scheduler.specs.declared.answer.Answer.{Answer}
+use Rattle.scheduler.specs.declared.answer.PickOption.the-variants as pick
+use Rattle.scheduler.specs.declared.answer.Value.the-variants as value
+use Rattle.scheduler.specs.declared.call.Call.the-variants.{Schedule}
+use Rattle.scheduler.specs.declared.scheduler.QoSScheduler.{QoSScheduler}
+use Rattle.scheduler.specs.declared.scheduler.Reply.{Reply}
+use Rattle.scheduler.specs.State.{State, noneByte, bandOrder, task, queue, withBand}
+use Rattle.scheduler.specs.Accepted.{ReadyOf}
+use Rattle.scheduler.specs.Outcome.{answered}
+use Rattle.scheduler.specs.Picking.{permitted, placeFor, choice, afterPick, ruleP, answerSlot, schedule}
+use Rattle.scheduler.specs.Ticking.{waitsBefore}
+use Rattle.scheduler.specs.Scheduler.{queuesOf, abs, Valid, Meets, Hold, toldBy}
+use Rattle.scheduler.proofs.Invariant.{ready-in-table}
+use Rattle.scheduler.proofs.Picks.{P-past, P-below}
+use Rattle.scheduler.proofs.Promises.{meets, meets-told}
+use Rattle.scheduler.proofs.Seeking.{Seeking, seeking-band, seeking-place, found-place, found-first, before, chosen, none-chosen, waits-found, waits-none}
+use Rattle.scheduler.proofs.Stored.{record-at, band-at, queue-at, queue-back}
+
+-- ---- going through the stored queues
+
+module _ {s : QoSScheduler} (v : Valid s) {core band place : ℕ} (k : Seeking (abs s) core band place) (low : band < 3) (dq : BandQueue) {o : SlotOption}
+    (read-is : o ≡ entryAt place (entries (getD (s .queues) band dq))) where
+  b : QoSClass
+  b = band-at band low .0
+
+  is : band ≡ bandCode b
+  unfolding b
+  is = band-at band low .1
+
+  entry-is : o ≡ entryAt place (queue (abs s) b)
+  entry-is = read-is ∙ ap (entryAt place) (queue-at v b is dq)
+
+  pub on-to-band : o ≡ slot.None → Seeking (abs s) core (band + 1) 0
+  on-to-band none = seeking-band (abs s) core k b is (sym entry-is ∙ none)
+
+  module _ (e : Slot) (some : o ≡ slot.Some e) where
+    here : (place < length (queue (abs s) b)) × (getD (queue (abs s) b) place 0 ≡ e .0)
+    here = entryAt-some place (queue (abs s) b) e (sym entry-is ∙ some)
+
+    ready : ReadyOf b (task (abs s) (e .0))
+    ready = subst (λ (i : ℕ). ReadyOf b (task (abs s) i)) (here .1) (v .accepted .entries b place (here .0))
+
+    pub place-low : place < 64
+    place-low = omega (arith, here .0, v .accepted .lengths b)
+
+    pub entry-low : e .0 < 64
+    entry-low = ready-in-table (abs s) (v .accepted .slots) (e .0) (ready .ready)
+
+    module _ (d : TaskControlBlock) {t : Bool} (asked : t ≡ permits (getD (s .tasks) (e .0) d .«cpu_affinity») core) where
+      may : permitted (abs s) core (e .0) ≡ t
+      may = ap (λ (r : TaskControlBlock). permits (r .«cpu_affinity») core) (sym (record-at s v (e .0) d entry-low)) ∙ sym asked
+
+      pub on-to-place : t ≡ false → Seeking (abs s) core band (place + 1)
+      on-to-place fails = seeking-place (abs s) core k b is e (sym entry-is ∙ some) (may ∙ fails)
+
+      -- an earlier band's entry waits
+      pub test-found : (qos : QoSClass) → band < bandCode qos → t ≡ true → true ≡ waitsBefore qos (abs s) core
+      test-found qos earlier passes =
+          sym (waits-found (abs s) core qos b e (omega (arith, is)) (found-first (abs s) core k b is e (sym entry-is ∙ some) (may ∙ passes))
+          (before (abs s) core k b is e (sym entry-is ∙ some) (may ∙ passes)))
+
+      -- the entry leaves, and runs on the core
+      pub schedule-picked : {a : Answer} {u : TaskControlBlock} {taken : Taken} → core < 64 → t ≡ true → Take (getD (s .queues) band dq) place taken →
+          u ≡ picked (getD (s .tasks) (e .0) d) →
+          a ≡ answered (pick.Some (record { slot = e; band = getD (s .tasks) (e .0) d .qos })) (value.Slot (slot.Some e)) →
+          Meets (Schedule core) s (record { answer = a; state = record { tasks = set (s .tasks) (e .0) u; queues = set (s .queues) band (taken .queue); current = set (s .current) core (e .0); «system_ticks_us» = s .«system_ticks_us» } })
+      unfolding schedule abs
+      schedule-picked {a} {u} {taken} below passes take u-is a-is =
+          let first : choice (abs s) core bandOrder ≡ pick.Some (record { slot = e; band = b }) = chosen (abs s) core k b is e (sym entry-is ∙ some) (may ∙ passes) in
+          let read-so : getD (s .tasks) (e .0) d ≡ task (abs s) (e .0) = record-at s v (e .0) d entry-low in
+          let of-band : getD (s .tasks) (e .0) d .qos ≡ b = ap (λ (r : TaskControlBlock). r .qos) read-so ∙ ready .of-band in
+          let back : Hold (set (s .queues) band (taken .queue)) (withBand (queuesOf (s .queues)) b (takenAt (placeFor (abs s) core b) (queue (abs s) b))) =
+          queue-back v b is dq (rw (found-place (abs s) core k b is e (sym entry-is ∙ some) (may ∙ passes)) (subst (λ (l : List ℕ). Holds (taken .queue) (takenAt place l)) (queue-at v b is dq) (take .queue-is))) in
+          meets v (answerSlot (afterPick (abs s) core (pick.Some (record { slot = e; band = b })))) (ap answerSlot (P-below (abs s) core below ∙ ap (afterPick (abs s) core) first)) (back .whole)
+          (a-is ∙ (λ i. answered (pick.Some (record { slot = e; band = of-band i })) (value.Slot (slot.Some e))))
+          (λ i. record {
+            tasks = set (s .tasks) (e .0) ((u-is ∙ ap picked read-so) i);
+            queues = back .entries-are i;
+            holders = set (s .current) core (e .0);
+            micros = s .«system_ticks_us»;
+          })
+
+-- ---- schedule
+
+module _ {s : QoSScheduler} (v : Valid s) {core : ℕ} where
+  pub schedule-past : {r : Reply} → 64 ≤ core → r ≡ toldBy s (value.Slot slot.None) → Meets (Schedule core) s r
+  unfolding schedule
+  schedule-past past is = meets-told v (value.Slot slot.None) is (ap answerSlot (P-past (abs s) core past))
+
+  pub schedule-none : {band place : ℕ} {r : Reply} → core < 64 → Seeking (abs s) core band place → 3 ≤ band →
+      r ≡ toldBy (record { tasks = s .tasks; queues = s .queues; current = set (s .current) core noneByte; «system_ticks_us» = s .«system_ticks_us» }) (value.Slot slot.None) →
+      Meets (Schedule core) s r
+  unfolding schedule abs
+  schedule-none below k past is =
+      subst (Meets (Schedule core) s) (sym is)
+      (meets v (answerSlot (afterPick (abs s) core pick.None)) (ap answerSlot (P-below (abs s) core below ∙ ap (afterPick (abs s) core) (none-chosen (abs s) core k past))) (v .whole) refl refl)
+
+-- ---- the tick's test
+
+module _ {s : QoSScheduler} (v : Valid s) {core band place : ℕ} (k : Seeking (abs s) core band place) (qos : QoSClass) {own : ℕ} (own-is : own ≡ bandCode qos) where
+  pub test-none : own ≤ band → false ≡ waitsBefore qos (abs s) core
+  test-none past = sym (waits-none (abs s) core qos (λ c l. k .passed c (omega arith)))

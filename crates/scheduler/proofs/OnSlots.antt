@@ -1,0 +1,184 @@
+-- The calls on slots meet their contract: a law for each way out of the code. `s` is the scheduler that the call found, `r` what it gave back,
+-- and `read` the record that it read. Assumes nothing.
+use mathlib.Core.Path.{_≡_, refl, sym, ap, _∙_, subst}
+use mathlib.Core.Bool.{true, false, not}
+use mathlib.Core.List.{List, map}
+use Prim.Native.Nat.{ℕ, _+_, _≤_, _<_}
+use native.Mathlib.Omega.{arith}
+use borrow.Author.Tests.{le-leb, lt-leb, lt-ltb, le-ltb, not-false, not-true}
+use lib.Dec.{leb, eqb}
+use lib.ListN.{getD, set}
+use Rattle.records.specs.declared.band.QoSClass.{QoSClass}
+use Rattle.records.specs.declared.error.SchedError.the-variants.{TableFull, QueueFull, NoSuchTask, AlreadyReady, AlreadyBlocked, NotBlocked}
+use Rattle.records.specs.declared.ids.Slot.{Slot}
+use Rattle.records.specs.declared.ids.SlotOption.the-variants as slot
+use Rattle.records.specs.declared.ids.Tid.{Tid}
+use Rattle.records.specs.declared.state.ThreadState.the-variants.{Ready, Running, Blocked}
+use Rattle.records.specs.declared.task.TaskControlBlock.{TaskControlBlock}
+use Rattle.records.specs.Band.{IsBandCode, bandCode}
+use Rattle.records.specs.Mask.{storedMask}
+use Rattle.records.specs.State.{isState}
+use Rattle.records.specs.Task.{created, withState, withMask, terminated, blocked}
+use Rattle.queue.specs.declared.BandQueue.{BandQueue}
+use Rattle.queue.specs.declared.Pushed.{Pushed}
+use Rattle.queue.specs.Answers.{Push}
+use Rattle.queue.specs.Stored.{entries, Holds}
+use Rattle.queue.specs.Rules.{full, takes, pushed, without}
+use Rattle.queue.proofs.Rules.{takes-slot}
+use Rattle.scheduler.specs.declared.answer.Answer.{Answer}
+use Rattle.scheduler.specs.declared.answer.PickOption.the-variants as pick
+use Rattle.scheduler.specs.declared.answer.Value.the-variants as value
+use Rattle.scheduler.specs.declared.call.Call.the-variants.{Create, Affinity, Terminate, Block, Wake, Enqueue}
+use Rattle.scheduler.specs.declared.scheduler.QoSScheduler.{QoSScheduler}
+use Rattle.scheduler.specs.declared.scheduler.Reply.{Reply}
+use Rattle.scheduler.specs.State.{State, Queues, firstPlace, task, queue, ofBand, withBand, eachQueue, withTask}
+use Rattle.scheduler.specs.Outcome.{answered, done}
+use Rattle.scheduler.specs.Scheduler.{queuesOf, abs, Whole, Valid, Meets, Hold, refusedBy}
+use Rattle.scheduler.specs.Waking.{freeSlot, create, released, affinity, outOfHolders, terminate, missing, outOfQueues, block, wake, coreHolding, isHeld, enqueued, enqueue}
+use Rattle.scheduler.proofs.Promises.{meets, meets-refused, meets-as}
+use Rattle.scheduler.proofs.Stored.{slots, record-at, queue-at, pushed-back}
+use Rattle.scheduler.proofs.Searches.{search-on, search-found}
+
+-- ---- a slot of 64 and above
+
+module _ {s : QoSScheduler} (v : Valid s) {slot : Slot} {r : Reply} (past : 64 ≤ slot .0) (is : r ≡ refusedBy s NoSuchTask) where
+  pub affinity-past : {mask : ℕ} → Meets (Affinity slot mask) s r
+  unfolding affinity
+  affinity-past = meets-refused v NoSuchTask is (rw (le-leb 64 (slot .0) past) refl)
+
+  pub terminate-past : Meets (Terminate slot) s r
+  unfolding terminate
+  terminate-past = meets-refused v NoSuchTask is (rw (le-leb 64 (slot .0) past) refl)
+
+  pub block-past : Meets (Block slot) s r
+  unfolding block
+  block-past = meets-refused v NoSuchTask is (rw (le-leb 64 (slot .0) past) refl)
+
+  pub wake-past : Meets (Wake slot) s r
+  unfolding wake
+  wake-past = meets-refused v NoSuchTask is (rw (le-leb 64 (slot .0) past) refl)
+
+  pub enqueue-past : Meets (Enqueue slot) s r
+  unfolding enqueue
+  enqueue-past = meets-refused v NoSuchTask is (rw (le-leb 64 (slot .0) past) refl)
+
+-- ---- a slot of the table
+
+module _ {s : QoSScheduler} (v : Valid s) {slot : Slot} (d : TaskControlBlock) (low : slot .0 < 64) where
+  abbrev read : TaskControlBlock
+  read = getD (s .tasks) (slot .0) d
+
+  read-is : read ≡ task (abs s) (slot .0)
+  read-is = record-at s v (slot .0) d low
+
+  pub affinity-done : {mask : ℕ} {a : Answer} {t : TaskControlBlock} → t ≡ withMask read (storedMask mask) → a ≡ answered pick.None value.Nothing →
+      Meets (Affinity slot mask) s (record { answer = a; state = record { tasks = set (s .tasks) (slot .0) t; queues = s .queues; current = s .current; «system_ticks_us» = s .«system_ticks_us» } })
+  unfolding affinity abs
+  affinity-done {mask} t-is a-is =
+      meets v (done value.Nothing (withTask (abs s) (slot .0) (withMask read (storedMask mask)))) (rw (lt-leb 64 (slot .0) low) (rw (sym read-is) refl)) (v .whole) a-is
+      (λ i. record { tasks = set (s .tasks) (slot .0) (t-is i); queues = queuesOf (s .queues); holders = s .current; micros = s .«system_ticks_us» })
+
+  pub terminate-done : {a : Answer} {t : TaskControlBlock} {qs : List BandQueue} {hs : List ℕ} → t ≡ terminated read →
+      Hold qs (eachQueue (without (slot .0)) (queuesOf (s .queues))) → hs ≡ map (released (slot .0)) (s .current) → a ≡ answered pick.None value.Nothing →
+      Meets (Terminate slot) s (record { answer = a; state = record { tasks = set (s .tasks) (slot .0) t; queues = qs; current = hs; «system_ticks_us» = s .«system_ticks_us» } })
+  unfolding terminate abs
+  terminate-done t-is out hs-is a-is =
+      meets v (done value.Nothing (withTask (outOfQueues (slot .0) (outOfHolders (slot .0) (abs s))) (slot .0) (terminated read))) (rw (lt-leb 64 (slot .0) low) (rw (sym read-is) refl)) (out .whole) a-is
+      (λ i. record { tasks = set (s .tasks) (slot .0) (t-is i); queues = out .entries-are i; holders = hs-is i; micros = s .«system_ticks_us» })
+
+  free-missing : not (read .«in_use») ≡ true → missing (abs s) (slot .0) ≡ true
+  free-missing free = rw (lt-leb 64 (slot .0) low) (rw (sym read-is) (rw free refl))
+
+  module _ {r : Reply} (free : not (read .«in_use») ≡ true) (is : r ≡ refusedBy s NoSuchTask) where
+    pub block-free : Meets (Block slot) s r
+    unfolding block
+    block-free = meets-refused v NoSuchTask is (rw (free-missing free) refl)
+
+    pub wake-free : Meets (Wake slot) s r
+    unfolding wake
+    wake-free = meets-refused v NoSuchTask is (rw (free-missing free) refl)
+
+    pub enqueue-free : Meets (Enqueue slot) s r
+    unfolding enqueue
+    enqueue-free = meets-refused v NoSuchTask is (rw (free-missing free) refl)
+
+  module _ (used : not (read .«in_use») ≡ false) where
+    there : missing (abs s) (slot .0) ≡ false
+    there = rw (lt-leb 64 (slot .0) low) (rw (sym read-is) (rw used refl))
+
+    pub block-again : {r : Reply} → isState (read .state) Blocked ≡ true → r ≡ refusedBy s AlreadyBlocked → Meets (Block slot) s r
+    unfolding block
+    block-again so is = meets-refused v AlreadyBlocked is (rw there (rw (sym read-is) (rw so refl)))
+
+    pub block-done : {a : Answer} {t : TaskControlBlock} {qs : List BandQueue} → isState (read .state) Blocked ≡ false →
+        Hold qs (eachQueue (without (slot .0)) (queuesOf (s .queues))) → t ≡ blocked read → a ≡ answered pick.None value.Nothing →
+        Meets (Block slot) s (record { answer = a; state = record { tasks = set (s .tasks) (slot .0) t; queues = qs; current = s .current; «system_ticks_us» = s .«system_ticks_us» } })
+    unfolding block abs
+    block-done so out t-is a-is =
+        meets v (done value.Nothing (withTask (outOfQueues (slot .0) (abs s)) (slot .0) (blocked read))) (rw there (rw (sym read-is) (rw so refl))) (out .whole) a-is
+        (λ i. record { tasks = set (s .tasks) (slot .0) (t-is i); queues = out .entries-are i; holders = s .current; micros = s .«system_ticks_us» })
+
+    pub wake-other : {r : Reply} → isState (read .state) Blocked ≡ false → r ≡ refusedBy s NotBlocked → Meets (Wake slot) s r
+    unfolding wake
+    wake-other so is = meets-refused v NotBlocked is (rw there (rw (sym read-is) (rw so refl)))
+
+    module _ (so : isState (read .state) Blocked ≡ true) {core : ℕ} (core-is : core ≡ firstPlace (λ (h : ℕ). eqb h (slot .0)) (s .current)) where
+      pub wake-queued : {r : Reply} → 64 ≤ core → Meets (Enqueue slot) s r → Meets (Wake slot) s r
+      unfolding wake abs
+      wake-queued none m =
+          meets-as m (rw there (rw (sym read-is) (rw so (rw (sym core-is) (rw (le-ltb core 64 none) refl)))))
+
+      pub wake-held : {a : Answer} {t : TaskControlBlock} → core < 64 → t ≡ withState read Running → a ≡ answered pick.None value.Nothing →
+          Meets (Wake slot) s (record { answer = a; state = record { tasks = set (s .tasks) (slot .0) t; queues = s .queues; current = s .current; «system_ticks_us» = s .«system_ticks_us» } })
+      unfolding wake abs
+      wake-held held t-is a-is =
+          meets v (done value.Nothing (withTask (abs s) (slot .0) (withState read Running))) (rw there (rw (sym read-is) (rw so (rw (sym core-is) (rw (lt-ltb core 64 held) refl))))) (v .whole) a-is
+          (λ i. record { tasks = set (s .tasks) (slot .0) (t-is i); queues = queuesOf (s .queues); holders = s .current; micros = s .«system_ticks_us» })
+
+    pub enqueue-again : {r : Reply} → isState (read .state) Ready ≡ true → r ≡ refusedBy s AlreadyReady → Meets (Enqueue slot) s r
+    unfolding enqueue
+    enqueue-again so is = meets-refused v AlreadyReady is (rw there (rw (sym read-is) (rw so refl)))
+
+    module _ (so : isState (read .state) Ready ≡ false) {n : ℕ} (code : IsBandCode (read .qos) n) (dq : BandQueue) {p : Pushed} (push : Push (getD (s .queues) n dq) slot p) where
+      abbrev es : List ℕ
+      es = queue (abs s) (read .qos)
+
+      -- a push is taken exactly where 64 entries do not stand in the queue
+      ok-is : p .ok ≡ not (full es)
+      ok-is =
+          push .ok-is ∙ takes-slot (slot .0) (entries (getD (s .queues) n dq)) low
+          ∙ ap (λ (l : List ℕ). not (full l)) (queue-at v (read .qos) (code .is) dq)
+
+      pub enqueue-full : {r : Reply} → p .ok ≡ false → r ≡ refusedBy s QueueFull → Meets (Enqueue slot) s r
+      unfolding enqueue
+      enqueue-full not-ok is = meets-refused v QueueFull is (rw there (rw (sym read-is) (rw so (rw (not-false (full es) (sym ok-is ∙ not-ok)) refl))))
+
+      pub enqueue-done : {a : Answer} {t : TaskControlBlock} → p .ok ≡ true → t ≡ withState read Ready → a ≡ answered pick.None value.Nothing →
+          Meets (Enqueue slot) s (record { answer = a; state = record { tasks = set (s .tasks) (slot .0) t; queues = set (s .queues) n (p .queue); current = s .current; «system_ticks_us» = s .«system_ticks_us» } })
+      unfolding enqueue abs
+      enqueue-done ok t-is a-is =
+          let test : full es ≡ false = not-true (full es) (sym ok-is ∙ ok) in
+          let back : Hold (set (s .queues) n (p .queue)) (withBand (queuesOf (s .queues)) (read .qos) (pushed (slot .0) es)) = pushed-back v (read .qos) (code .is) dq push in
+          meets v (done value.Nothing (enqueued (slot .0) (abs s))) (rw there (rw (sym read-is) (rw so (rw test refl)))) (back .whole) a-is
+          (rw (sym read-is) (λ i. record { tasks = set (s .tasks) (slot .0) (t-is i); queues = back .entries-are i; holders = s .current; micros = s .«system_ticks_us» }))
+
+-- ---- create
+
+module _ {s : QoSScheduler} (v : Valid s) (free : ℕ) (so-far : free ≤ freeSlot (abs s)) where
+  -- slot `free` is in use: on to the next
+  pub create-on : (d : TaskControlBlock) → free < 64 → not (getD (s .tasks) free d .«in_use») ≡ false → free + 1 ≤ freeSlot (abs s)
+  unfolding abs
+  create-on d low used = search-on (λ (t : TaskControlBlock). not (t .«in_use»)) (s .tasks) free d so-far (omega (arith, slots s v)) used
+
+  pub create-full : {tid : Tid} {qos : QoSClass} {context cr3 rsp0 : ℕ} {r : Reply} → 64 ≤ free → r ≡ refusedBy s TableFull → Meets (Create tid qos context cr3 rsp0) s r
+  unfolding create
+  create-full past is = meets-refused v TableFull is (rw (le-leb 64 (freeSlot (abs s)) (omega arith)) refl)
+
+  pub create-done : {tid : Tid} {qos : QoSClass} {context cr3 rsp0 : ℕ} {a : Answer} {t : TaskControlBlock} → free < 64 → (d : TaskControlBlock) → not (getD (s .tasks) free d .«in_use») ≡ true →
+      t ≡ created tid qos context cr3 rsp0 → a ≡ answered pick.None (value.Slot (slot.Some (record { 0 = free }))) →
+      Meets (Create tid qos context cr3 rsp0) s (record { answer = a; state = record { tasks = set (s .tasks) free t; queues = s .queues; current = s .current; «system_ticks_us» = s .«system_ticks_us» } })
+  unfolding create abs
+  create-done {tid} {qos} {context} {cr3} {rsp0} low d is t-is a-is =
+      let found : freeSlot (abs s) ≡ free = search-found (λ (t : TaskControlBlock). not (t .«in_use»)) (s .tasks) free d so-far (omega (arith, slots s v)) is in
+      meets v (done (value.Slot (slot.Some (record { 0 = free }))) (withTask (abs s) free (created tid qos context cr3 rsp0))) (rw found (rw (lt-leb 64 free low) refl)) (v .whole) a-is
+      (λ i. record { tasks = set (s .tasks) free (t-is i); queues = queuesOf (s .queues); holders = s .current; micros = s .«system_ticks_us» })

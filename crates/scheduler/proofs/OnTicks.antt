@@ -1,0 +1,224 @@
+-- The tick meets its contract: a law for each way out of the code, and for each state that it hands on to a pick. Assumes nothing.
+use mathlib.Core.Path.{_≡_, refl, sym, ap, _∙_, subst}
+use mathlib.Core.Bool.{Bool, true, false, cond, _||_, or-true}
+use mathlib.Core.List.{List}
+use Prim.Native.Nat.{ℕ, _+_, _%_, _^_, _≤_, _<_}
+use native.Mathlib.Omega.{arith}
+use borrow.Author.Tests.{le-leb, lt-leb}
+use lib.Dec.{leb}
+use lib.ListN.{length, getD, set}
+use lib.Seq.{getD-set-same, set-set}
+use Rattle.records.specs.declared.band.QoSClass.{QoSClass}
+use Rattle.records.specs.declared.ids.Slot.{Slot}
+use Rattle.records.specs.declared.ids.SlotOption.{SlotOption}
+use Rattle.records.specs.declared.ids.SlotOption.the-variants as slot
+use Rattle.records.specs.declared.state.ThreadState.the-variants.{Ready, Blocked}
+use Rattle.records.specs.declared.task.TaskControlBlock.{TaskControlBlock}
+use Rattle.records.specs.Band.{IsBandCode, bandCode}
+use Rattle.records.specs.State.{isState}
+use Rattle.records.specs.Task.{emptyRecord, withState, withConsumed}
+use Rattle.queue.specs.declared.BandQueue.{BandQueue}
+use Rattle.queue.specs.declared.Pushed.{Pushed}
+use Rattle.queue.specs.Answers.{Push}
+use Rattle.queue.specs.Rules.{pushed}
+use Rattle.scheduler.specs.declared.answer.Answer.{Answer}
+use Rattle.scheduler.specs.declared.answer.PickOption.the-variants as pick
+use Rattle.scheduler.specs.declared.answer.Value.the-variants as value
+use Rattle.scheduler.specs.declared.call.Call.the-variants.{Schedule, Tick}
+use Rattle.scheduler.specs.declared.scheduler.QoSScheduler.{QoSScheduler}
+use Rattle.scheduler.specs.declared.scheduler.Reply.{Reply}
+use Rattle.scheduler.specs.State.{State, noneByte, task, queue, holderIn, holderOf, withTask, withBand, withQueue}
+use Rattle.scheduler.specs.Accepted.{Accepted, MayHold}
+use Rattle.scheduler.specs.Outcome.{answered}
+use Rattle.scheduler.specs.Picking.{ruleP, answerSlot, schedule}
+use Rattle.scheduler.specs.Ticking.{gain, cleared, waitsBefore, sliceOver, requeued, staysHolder, ticked, tick}
+use Rattle.scheduler.specs.Took.{backToQueue, outOfSlice}
+use Rattle.scheduler.specs.Scheduler.{queuesOf, abs, Whole, Valid, Meets, Hold, toldBy}
+use Rattle.scheduler.proofs.Effects.{holder-is, clears, slice-ends}
+use Rattle.scheduler.proofs.Invariant.{Invariant, accepted-invariant, invariant-accepted, used-in-table}
+use Rattle.scheduler.proofs.Moves.{Harmless, time}
+use Rattle.scheduler.proofs.Promises.{meets, meets-told, meets-as}
+use Rattle.scheduler.proofs.Stored.{record-at, holder-at, pushed-back}
+
+-- what a change that harms nobody leaves is accepted
+pub harmless-accepted : {s t : State} → Harmless (λ (x : ℕ). ⊥) s t → Accepted t
+harmless-accepted {t = t} f = invariant-accepted t (f .invariant)
+
+-- ---- the end of a slice, where the record is stored once
+
+module _ (s : State) (i : ℕ) (there : i < length (s .tasks)) where
+  zeroed : TaskControlBlock
+  zeroed = withConsumed (task s i) 0
+
+  stored : task (withTask s i (withConsumed (task s i) 0)) i ≡ withConsumed (task s i) 0
+  stored = getD-set-same (s .tasks) i (withConsumed (task s i) 0) emptyRecord there
+
+  pub out-ready : isState (task s i .state) Ready ≡ true → outOfSlice i s ≡ withTask s i (withConsumed (task s i) 0)
+  out-ready so = rw stored (rw so refl)
+
+  pub out-queued : isState (task s i .state) Ready ≡ false →
+      outOfSlice i s ≡ withTask (withQueue s (task s i .qos) (pushed i (queue s (task s i .qos)))) i (withState (withConsumed (task s i) 0) Ready)
+  out-queued so = rw stored (rw so (ap (λ (l : List TaskControlBlock). record {
+    tasks = l;
+    queues = withBand (s .queues) (task s i .qos) (pushed i (queue s (task s i .qos)));
+    holders = s .holders;
+    micros = s .micros;
+  }) (set-set (s .tasks) i (withConsumed (task s i) 0) (withState (withConsumed (task s i) 0) Ready))))
+
+-- ---- a core of 64 and above
+
+pub tick-past : {s : QoSScheduler} → Valid s → {core elapsed : ℕ} {r : Reply} → 64 ≤ core → r ≡ toldBy s (value.Slot slot.None) → Meets (Tick core elapsed) s r
+unfolding tick ticked
+tick-past v {core} past is = meets-told v (value.Slot slot.None) is (rw (le-leb 64 core past) refl)
+
+-- ---- a core below 64: time goes by first
+
+module _ {s : QoSScheduler} (v : Valid s) {core micros : ℕ} (elapsed : ℕ) (low : core < 64) (gained : micros ≡ (s .«system_ticks_us» + elapsed) % 2 ^ 64) where
+  abbrev later : QoSScheduler
+  later = record { tasks = s .tasks; queues = s .queues; current = s .current; «system_ticks_us» = micros }
+
+  later-is : abs later ≡ gain elapsed (abs s)
+  unfolding abs
+  later-is = λ i. record { tasks = s .tasks; queues = queuesOf (s .queues); holders = s .current; micros = gained i }
+
+  known : Invariant (gain elapsed (abs s))
+  known = time {safe = λ (x : ℕ). ⊥} (abs s) (accepted-invariant (abs s) (v .accepted)) (gain elapsed (abs s) .micros) .invariant
+
+  pub later-valid : Valid later
+  later-valid = record { whole = v .whole; accepted = subst Accepted (sym later-is) (invariant-accepted (gain elapsed (abs s)) known) }
+
+  module _ (d : ℕ) {o : SlotOption} (read-holder : o ≡ holderIn (getD (s .current) core d)) where
+    holder-so : holderOf (abs s) core ≡ o
+    holder-so = ap holderIn (sym (holder-at s v core d low)) ∙ sym read-holder
+
+    pub tick-none : {r : Reply} → o ≡ slot.None → Meets (Schedule core) later r → Meets (Tick core elapsed) s r
+    unfolding tick ticked schedule
+    tick-none none m = meets-as m (rw (lt-leb 64 core low) (rw (holder-so ∙ none) (rw later-is refl)))
+
+    module _ (h : Slot) (some : o ≡ slot.Some h) where
+      may : MayHold (task (abs s) (h .0))
+      may = holder-is (abs s) (accepted-invariant (abs s) (v .accepted)) core h (holder-so ∙ some)
+
+      pub holder-low : h .0 < 64
+      holder-low = used-in-table (abs s) (v .accepted .slots) (h .0) (may .used)
+
+      module _ (dt : TaskControlBlock) where
+        abbrev read : TaskControlBlock
+        read = getD (s .tasks) (h .0) dt
+
+        read-is : read ≡ task (abs s) (h .0)
+        read-is = record-at s v (h .0) dt holder-low
+
+        -- the holder is Blocked: the core lets go of it
+        module _ (so : isState (read .state) Blocked ≡ true) where
+          abbrev let-go : QoSScheduler
+          let-go = record { tasks = s .tasks; queues = s .queues; current = set (s .current) core noneByte; «system_ticks_us» = micros }
+
+          let-go-is : abs let-go ≡ cleared core (gain elapsed (abs s))
+          unfolding abs
+          let-go-is = λ i. record { tasks = s .tasks; queues = queuesOf (s .queues); holders = set (s .current) core noneByte; micros = gained i }
+
+          pub let-go-valid : Valid let-go
+          let-go-valid = record {
+            whole = v .whole;
+            accepted = subst Accepted (sym let-go-is) (harmless-accepted (clears (gain elapsed (abs s)) known core low));
+          }
+
+          pub tick-blocked : {r : Reply} → Meets (Schedule core) let-go r → Meets (Tick core elapsed) s r
+          unfolding tick ticked schedule
+          tick-blocked m = meets-as m (rw (lt-leb 64 core low) (rw (holder-so ∙ some) (rw (sym read-is) (rw so (rw let-go-is refl)))))
+
+        module _ (so : isState (read .state) Blocked ≡ false) where
+          awake : isState (task (abs s) (h .0) .state) Blocked ≡ false
+          awake = rw (sym read-is) so
+
+          -- what the tick comes to, by its test
+          comes-to : (b : Bool) → sliceOver (h .0) elapsed core (gain elapsed (abs s)) ≡ b →
+              tick core elapsed (abs s) ≡ answerSlot (cond b (ruleP core (requeued (h .0) (gain elapsed (abs s)))) (staysHolder h elapsed (gain elapsed (abs s))))
+          unfolding tick ticked
+          comes-to b test = rw (lt-leb 64 core low) (rw (holder-so ∙ some) (rw awake (rw test refl)))
+
+          -- the test, on what was read
+          waits-so : {b : Bool} → waitsBefore (read .qos) (abs later) core ≡ b → waitsBefore (task (abs s) (h .0) .qos) (gain elapsed (abs s)) core ≡ b
+          waits-so e = (λ i. waitsBefore (sym read-is i .qos) (sym later-is i) core) ∙ e
+
+          goes-on : read .«consumed_slice_us» + elapsed < read .«slice_budget_us» → waitsBefore (read .qos) (abs later) core ≡ false →
+              sliceOver (h .0) elapsed core (gain elapsed (abs s)) ≡ false
+          goes-on short nobody = rw (waits-so nobody) (rw (sym read-is) (rw (lt-leb (read .«slice_budget_us») (read .«consumed_slice_us» + elapsed) short) refl))
+
+          -- the slice goes on
+          pub tick-stays : {a : Answer} {u : TaskControlBlock} → read .«consumed_slice_us» + elapsed < read .«slice_budget_us» →
+              waitsBefore (read .qos) (abs later) core ≡ false → u ≡ withConsumed read (read .«consumed_slice_us» + elapsed) →
+              a ≡ answered pick.None (value.Slot (slot.Some h)) →
+              Meets (Tick core elapsed) s (record { answer = a; state = record { tasks = set (s .tasks) (h .0) u; queues = s .queues; current = s .current; «system_ticks_us» = micros } })
+          unfolding abs
+          tick-stays short nobody u-is a-is =
+              let over : sliceOver (h .0) elapsed core (gain elapsed (abs s)) ≡ false = goes-on short nobody in
+              meets v (answerSlot (staysHolder h elapsed (gain elapsed (abs s)))) (comes-to false over) (v .whole) a-is
+              (λ i. record { tasks = set (s .tasks) (h .0) ((u-is ∙ ap (λ (t : TaskControlBlock). withConsumed t (t .«consumed_slice_us» + elapsed)) read-is) i); queues = queuesOf (s .queues); holders = s .current; micros = gained i })
+
+          -- the slice is over
+          pub used-up : read .«slice_budget_us» ≤ read .«consumed_slice_us» + elapsed → sliceOver (h .0) elapsed core (gain elapsed (abs s)) ≡ true
+          used-up past = rw (sym read-is) (rw (le-leb (read .«slice_budget_us») (read .«consumed_slice_us» + elapsed) past) refl)
+
+          pub gives-way : waitsBefore (read .qos) (abs later) core ≡ true → sliceOver (h .0) elapsed core (gain elapsed (abs s)) ≡ true
+          gives-way waits = rw (waits-so waits) (or-true (leb (task (abs s) (h .0) .«slice_budget_us») (task (abs s) (h .0) .«consumed_slice_us» + elapsed)))
+
+          module _ (over : sliceOver (h .0) elapsed core (gain elapsed (abs s)) ≡ true) where
+            ends : Harmless (λ (x : ℕ). ⊥) (gain elapsed (abs s)) (outOfSlice (h .0) (gain elapsed (abs s))) × (requeued (h .0) (gain elapsed (abs s)) ≡ outOfSlice (h .0) (gain elapsed (abs s)))
+            ends = slice-ends (gain elapsed (abs s)) known (h .0) (may .used)
+
+            there : h .0 < length (abs s .tasks)
+            there = omega (arith, holder-low, v .accepted .slots)
+
+            -- a scheduler that holds what is left at the end of the slice
+            ended-valid : {m : QoSScheduler} → Whole (m .queues) → abs m ≡ outOfSlice (h .0) (gain elapsed (abs s)) → Valid m
+            ended-valid w is = record { whole = w; accepted = subst Accepted (sym is) (harmless-accepted (ends .0)) }
+
+            ended : {m : QoSScheduler} {r : Reply} → abs m ≡ outOfSlice (h .0) (gain elapsed (abs s)) → Meets (Schedule core) m r → Meets (Tick core elapsed) s r
+            unfolding schedule
+            ended is m = meets-as m (comes-to true over ∙ ap (λ (t : State). answerSlot (ruleP core t)) (ends .1 ∙ sym is))
+
+            -- a Ready holder waits already
+            module _ (waits : isState (read .state) Ready ≡ true) {u : TaskControlBlock} (u-is : u ≡ withConsumed read 0) where
+              abbrev spared : QoSScheduler
+              spared = record { tasks = set (s .tasks) (h .0) u; queues = s .queues; current = s .current; «system_ticks_us» = micros }
+
+              spared-holds : abs spared ≡ withTask (gain elapsed (abs s)) (h .0) (withConsumed (task (abs s) (h .0)) 0)
+              unfolding abs
+              spared-holds = λ i. record { tasks = set (s .tasks) (h .0) ((u-is ∙ ap (λ (t : TaskControlBlock). withConsumed t 0) read-is) i); queues = queuesOf (s .queues); holders = s .current; micros = gained i }
+
+              spared-is : abs spared ≡ outOfSlice (h .0) (gain elapsed (abs s))
+              spared-is = spared-holds ∙ sym (out-ready (gain elapsed (abs s)) (h .0) there (rw (sym read-is) waits))
+
+              pub spared-valid : Valid spared
+              spared-valid = ended-valid (v .whole) spared-is
+
+              pub tick-waits : {r : Reply} → Meets (Schedule core) spared r → Meets (Tick core elapsed) s r
+              tick-waits m = ended spared-is m
+
+            -- any other goes to the tail of its band
+            module _ (runs : isState (read .state) Ready ≡ false) {n : ℕ} (code : IsBandCode (read .qos) n) (dq : BandQueue) {p : Pushed}
+                (push : Push (getD (s .queues) n dq) h p) {u : TaskControlBlock} (u-is : u ≡ withState (withConsumed read 0) Ready) where
+              abbrev sent-back : QoSScheduler
+              sent-back = record { tasks = set (s .tasks) (h .0) u; queues = set (s .queues) n (p .queue); current = s .current; «system_ticks_us» = micros }
+
+              back : Hold (set (s .queues) n (p .queue)) (withBand (queuesOf (s .queues)) (read .qos) (pushed (h .0) (queue (abs s) (read .qos))))
+              back = pushed-back v (read .qos) (code .is) dq push
+
+              -- the state that is left, by the record that was read
+              abbrev left-with : TaskControlBlock → State
+              left-with t = withTask (withQueue (gain elapsed (abs s)) (t .qos) (pushed (h .0) (queue (abs s) (t .qos)))) (h .0) (withState (withConsumed t 0) Ready)
+
+              sent-back-holds : abs sent-back ≡ left-with read
+              unfolding abs
+              sent-back-holds = λ i. record { tasks = set (s .tasks) (h .0) (u-is i); queues = back .entries-are i; holders = s .current; micros = gained i }
+
+              sent-back-is : abs sent-back ≡ outOfSlice (h .0) (gain elapsed (abs s))
+              sent-back-is = sent-back-holds ∙ ap left-with read-is ∙ sym (out-queued (gain elapsed (abs s)) (h .0) there (rw (sym read-is) runs))
+
+              pub sent-back-valid : Valid sent-back
+              sent-back-valid = ended-valid (back .whole) sent-back-is
+
+              pub tick-over : {r : Reply} → Meets (Schedule core) sent-back r → Meets (Tick core elapsed) s r
+              tick-over m = ended sent-back-is m

@@ -1,0 +1,24 @@
+use Rattle.scheduler.proofs.OnPlans.{plan-past, plan-done}
+use borrow.Author.Needs.{needs}
+use Rattle.scheduler.proofs.scheduler.QoSScheduler.plan_context_switch_on_cpu.Statement.{
+  statement,
+}
+use Rattle.scheduler.proofs.scheduler.QoSScheduler.plan_context_switch_on_cpu.Tie as tie
+
+returns : tie.Need-returns
+returns c = plan-past (c .before .before .pre) (c .before .if1 .taken) (c .told .ensures)
+
+returns-2 : tie.Need-returns-2
+returns-2 c = plan-done (c .before .before .before .before .before .pre) _ (c .before .before .before .before .if1 .left) (c .before .before .holder-of .ensures) (c .before .on-timer-tick-on-cpu .ensures) (c .plan-from .ensures)
+
+pub plan-context-switch-on-cpu-spec : {M : Type 1} → statement M
+plan-context-switch-on-cpu-spec =
+    tie.close
+    (tie.spec
+    (λ c κs. search needs)
+    returns
+    (λ c. search needs)
+    (λ c κs. search needs)
+    (λ c κs. search needs)
+    (λ c κs. search needs)
+    returns-2)

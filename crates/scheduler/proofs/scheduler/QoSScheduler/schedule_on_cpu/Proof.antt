@@ -1,0 +1,99 @@
+use mathlib.Core.Path.{_≡_, refl}
+use Prim.Native.Nat.{_+_, _-_, _*_}
+use native.Mathlib.Omega.{arith}
+use borrow.Author.Needs.{needs}
+use Rattle.scheduler.specs.Scheduler.{abs, Valid}
+use Rattle.scheduler.proofs.OnCores.{on-to-band, place-low, entry-low, on-to-place, schedule-picked, schedule-past, schedule-none}
+use Rattle.scheduler.proofs.Promises.{meets-from}
+use Rattle.scheduler.proofs.Seeking.{Seeking, seeking-first}
+use Rattle.scheduler.proofs.Stored.{ring-below}
+use Rattle.scheduler.proofs.scheduler.QoSScheduler.schedule_on_cpu.Statement.{statement}
+use Rattle.scheduler.proofs.scheduler.QoSScheduler.schedule_on_cpu.Tie as tie
+
+abbrev Inv-loop : tie.InvT-loop
+Inv-loop core self₀ band₀ place₀ self band place = (self ≡ self₀) × (Valid self × Seeking (abs self) core band place)
+
+abbrev μ-loop : tie.MeasureT-loop
+μ-loop core self₀ band₀ place₀ self band place = (3 - band) * 65 + (64 - place)
+
+returns : tie.Need-returns Inv-loop μ-loop
+returns c = schedule-past (search needs) (c .before .if1 .taken) (c .told .ensures)
+
+loop-holds : tie.Need-loop-holds Inv-loop μ-loop
+loop-holds c = (refl, (c .before .pre, seeking-first _ _))
+
+entry-at-requires : tie.Need-entry-at-requires Inv-loop μ-loop
+entry-at-requires c κs = ring-below _ ((c .before .before .loop .inv .1 .0) .whole) _ _ (search needs)
+
+loop-again : tie.Need-loop-again Inv-loop μ-loop
+loop-again c = (c .before .before .before .before .before .loop .inv .0, ((c .before .before .before .before .before .loop .inv .1 .0), on-to-band (c .before .before .before .before .before .loop .inv .1 .0) (c .before .before .before .before .before .loop .inv .1 .1) (c .before .before .before .before .loop-test .taken) _ (c .before .before .entry-at .ensures) (c .enum-told .given .1)))
+
+mul-task : tie.Need-mul-task Inv-loop μ-loop
+mul-task c = omega (arith, entry-low (c .before .before .before .before .before .before .loop .inv .1 .0) (c .before .before .before .before .before .before .loop .inv .1 .1) (c .before .before .before .before .before .loop-test .taken) _ (c .before .before .before .entry-at .ensures) _ (c .before .entry .given .1))
+
+element-copy-out-task : tie.Need-element-copy-out-task Inv-loop μ-loop
+element-copy-out-task c = entry-low (c .before .before .before .before .before .before .loop .inv .1 .0) (c .before .before .before .before .before .before .loop .inv .1 .1) (c .before .before .before .before .before .loop-test .taken) _ (c .before .before .before .entry-at .ensures) _ (c .before .entry .given .1)
+
+take-at-requires : tie.Need-take-at-requires Inv-loop μ-loop
+take-at-requires c κs = ring-below _ ((c .before .before .before .before .before .before .before .before .before .loop .inv .1 .0) .whole) _ _ (search needs)
+
+mul-t28 : tie.Need-mul-t28 Inv-loop μ-loop
+mul-t28 c = omega (arith, entry-low (c .before .before .before .before .before .before .before .before .before .before .before .before .loop .inv .1 .0) (c .before .before .before .before .before .before .before .before .before .before .before .before .loop .inv .1 .1) (c .before .before .before .before .before .before .before .before .before .before .before .loop-test .taken) _ (c .before .before .before .before .before .before .before .before .before .entry-at .ensures) _ (c .before .before .before .before .before .before .before .entry .given .1))
+
+element-set-from-self : tie.Need-element-set-from-self Inv-loop μ-loop
+element-set-from-self c = entry-low (c .before .before .before .before .before .before .before .before .before .before .before .before .loop .inv .1 .0) (c .before .before .before .before .before .before .before .before .before .before .before .before .loop .inv .1 .1) (c .before .before .before .before .before .before .before .before .before .before .before .loop-test .taken) _ (c .before .before .before .before .before .before .before .before .before .entry-at .ensures) _ (c .before .before .before .before .before .before .before .entry .given .1)
+
+cast-self : tie.Need-cast-self Inv-loop μ-loop
+cast-self c = omega (arith, entry-low (c .before .before .before .before .before .before .before .before .before .before .before .before .loop .inv .1 .0) (c .before .before .before .before .before .before .before .before .before .before .before .before .loop .inv .1 .1) (c .before .before .before .before .before .before .before .before .before .before .before .loop-test .taken) _ (c .before .before .before .before .before .before .before .before .before .entry-at .ensures) _ (c .before .before .before .before .before .before .before .entry .given .1))
+
+returns-2 : tie.Need-returns-2 Inv-loop μ-loop
+returns-2 c = meets-from (c .before .before .before .before .before .before .before .before .before .before .before .before .before .loop .inv .0) (schedule-picked (c .before .before .before .before .before .before .before .before .before .before .before .before .before .loop .inv .1 .0) (c .before .before .before .before .before .before .before .before .before .before .before .before .before .loop .inv .1 .1) (c .before .before .before .before .before .before .before .before .before .before .before .before .loop-test .taken) _ (c .before .before .before .before .before .before .before .before .before .before .entry-at .ensures) _ (c .before .before .before .before .before .before .before .before .entry .given .1) _ (c .before .before .before .before .before .mask-permits .ensures) (c .before .before .before .before .before .before .before .before .before .before .before .before .before .before .if1 .left) (c .before .before .before .before .if2 .taken) (c .before .before .before .take-at .ensures) (c .before .picked .ensures) (c .done .ensures))
+
+add-place : tie.Need-add-place Inv-loop μ-loop
+add-place c = omega (arith, place-low (c .before .before .before .before .before .before .before .before .before .loop .inv .1 .0) (c .before .before .before .before .before .before .before .before .before .loop .inv .1 .1) (c .before .before .before .before .before .before .before .before .loop-test .taken) _ (c .before .before .before .before .before .before .entry-at .ensures) _ (c .before .before .before .before .entry .given .1))
+
+loop-less-2 : tie.Need-loop-less-2 Inv-loop μ-loop
+loop-less-2 c = omega (arith, place-low (c .before .before .before .before .before .before .before .before .before .loop .inv .1 .0) (c .before .before .before .before .before .before .before .before .before .loop .inv .1 .1) (c .before .before .before .before .before .before .before .before .loop-test .taken) _ (c .before .before .before .before .before .before .entry-at .ensures) _ (c .before .before .before .before .entry .given .1))
+
+loop-again-2 : tie.Need-loop-again-2 Inv-loop μ-loop
+loop-again-2 c = (c .before .before .before .before .before .before .before .before .before .loop .inv .0, ((c .before .before .before .before .before .before .before .before .before .loop .inv .1 .0), on-to-place (c .before .before .before .before .before .before .before .before .before .loop .inv .1 .0) (c .before .before .before .before .before .before .before .before .before .loop .inv .1 .1) (c .before .before .before .before .before .before .before .before .loop-test .taken) _ (c .before .before .before .before .before .before .entry-at .ensures) _ (c .before .before .before .before .entry .given .1) _ (c .before .mask-permits .ensures) (c .if2 .left)))
+
+returns-3 : tie.Need-returns-3 Inv-loop μ-loop
+returns-3 c = meets-from (c .before .before .loop .inv .0) (schedule-none (c .before .before .loop .inv .1 .0) (c .before .before .before .if1 .left) (c .before .before .loop .inv .1 .1) (c .before .loop-test .left) (c .told2 .ensures))
+
+pub schedule-on-cpu-spec : {M : Type 1} → statement M
+schedule-on-cpu-spec =
+    tie.close
+    (tie.spec
+    Inv-loop
+    μ-loop
+    (λ c κs. search needs)
+    returns
+    loop-holds
+    (λ c. search needs)
+    (λ c. search needs)
+    entry-at-requires
+    (λ c. search needs)
+    (λ c. search needs)
+    (λ c. search needs)
+    loop-again
+    (λ c. search needs)
+    mul-task
+    element-copy-out-task
+    (λ c κs. search needs)
+    take-at-requires
+    (λ c. search needs)
+    (λ c. search needs)
+    (λ c κs. search needs)
+    mul-t28
+    element-set-from-self
+    cast-self
+    (λ c. search needs)
+    (λ c κs. search needs)
+    returns-2
+    add-place
+    loop-less-2
+    loop-again-2
+    (λ c. search needs)
+    (λ c κs. search needs)
+    returns-3)

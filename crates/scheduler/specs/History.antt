@@ -1,0 +1,67 @@
+-- Demands 2 and 3 on the code: histories of calls that keep their contract, and what is claimed of each. The contract of `apply` and of every
+-- method is `Meets`, so whatever calls the code is given, in whatever order, make a history.
+use mathlib.Core.Path.{_≡_}
+use mathlib.Core.List.{List, [], _∷_, _++_, map}
+use Prim.Native.Nat.{ℕ, _<_}
+use Rattle.records.specs.declared.state.ThreadState.the-variants.{Ready}
+use Rattle.records.specs.Band.{slice}
+use Rattle.scheduler.specs.declared.call.Call.{Call}
+use Rattle.scheduler.specs.declared.scheduler.QoSScheduler.{QoSScheduler}
+use Rattle.scheduler.specs.declared.scheduler.Reply.{Reply}
+use Rattle.scheduler.specs.State.{State, task, queue}
+use Rattle.scheduler.specs.Outcome.{Outcome}
+use Rattle.scheduler.specs.Step.{step, run}
+use Rattle.scheduler.specs.Took.{Carries}
+use Rattle.scheduler.specs.Stretch.{Event, breaks, picks, stretch, ahead}
+use Rattle.scheduler.specs.Demand3.{Waiting}
+use Rattle.scheduler.specs.Scheduler.{abs, Valid, Meets}
+
+-- one call, and what the code gave back
+pub record Made : Type 0 where
+  pub call : Call
+  pub reply : Reply
+
+-- "each call gets the state that the one before returned or left": each keeps its contract there
+unfoldable pub History : QoSScheduler → List Made → Type 0
+History s [] = Unit
+History s (a ∷ rest) = Meets (a .call) s (a .reply) × History (a .reply .state) rest
+
+-- the scheduler that a history leaves
+unfoldable pub left : QoSScheduler → List Made → QoSScheduler
+left s [] = s
+left s (a ∷ rest) = left (a .reply .state) rest
+
+-- its calls, without what came back
+abbrev pub callsOf : List Made → List Call
+callsOf made = map (λ (a : Made). a .call) made
+
+-- its events: the answers and the states are the code's, and not the rules'
+unfoldable pub happened : QoSScheduler → List Made → List Event
+happened s [] = []
+happened s (a ∷ rest) = record { call = a .call; found = abs s; answer = a .reply .answer } ∷ happened (a .reply .state) rest
+
+-- what one call gave back, as the rules put it
+abbrev pub outcomeOf : Reply → Outcome
+outcomeOf r = record { answer = r .answer; state = abs (r .state) }
+
+-- at one point: the start and the calls so far, the scheduler there, and the calls that follow
+pub record CodePoint (start : State) (past : List Call) (s : QoSScheduler) (next : List Made) : Type 0 where
+  -- it is a scheduler that every call may be given
+  pub valid : Valid s
+  -- "At each, the scheduler's state equals the one that this paper's rules and refusals make from the start and the calls so far"
+  pub states : abs s ≡ run past start
+  -- the next answer, status, pick and value, is the rules' answer there
+  pub answers : (a : Made) (more : List Made) → next ≡ a ∷ more → a .reply .answer ≡ step (a .call) (run past start) .answer
+  -- "the answer carries exactly that pick, or none, and those are the picks counted"
+  pub carried : (a : Made) (more : List Made) → next ≡ a ∷ more → Carries (a .call) (abs s) (outcomeOf (a .reply))
+  -- "at every point of every such list, every slot's consumed time is below its band's slice"
+  pub consumed : (slot : ℕ) → task (abs s) slot .«consumed_slice_us» < slice (task (abs s) slot .qos)
+  -- "a slot X is Ready with p entries before it in its band"
+  pub stands : (x : ℕ) → task (abs s) x .state ≡ Ready → (rest : List ℕ) × (queue (abs s) (task (abs s) x .qos) ≡ ahead (abs s) x ++ x ∷ rest)
+  -- "Whatever other tasks and cores do in that stretch, [..]": the picks are those in the code's answers
+  pub waiting : (x : ℕ) → task (abs s) x .state ≡ Ready →
+      Waiting (task (abs s) x .qos) x (ahead (abs s) x) (stretch (breaks x) (picks x) (happened s next))
+
+-- "All this is a single claim about the list": at every point, however the history is cut
+abbrev pub CodeClaim : QoSScheduler → List Made → Type 0
+CodeClaim s₀ made = (past next : List Made) → past ++ next ≡ made → CodePoint (abs s₀) (callsOf past) (left s₀ past) next
