@@ -1,12 +1,11 @@
 -- The new scheduler, the queries and the private parts meet their contract: a law for each way out of the code. `s` is the scheduler that is
 -- asked, and the reads' defaults are whatever the code takes. Assumes nothing.
 use mathlib.Core.Path.{_≡_, refl, sym, ap, _∙_, subst}
-use mathlib.Core.Bool.{Bool, true, false, cond}
+use mathlib.Core.Bool.{Bool, true, false}
 use mathlib.Core.List.{[]}
-use mathlib.Core.Logic.{⊎-elim}
 use Prim.Native.Nat.{ℕ, _≤_, _<_}
 use native.Mathlib.Omega.{arith}
-use borrow.Author.Tests.{le-leb, lt-leb, eq-eqb, ne-eqb, eqb-false}
+use borrow.Author.Tests.{le-leb, lt-leb, eq-eqb, ne-eqb}
 use lib.Dec.{eqb}
 use lib.ListN.{getD, replicate}
 use Rattle.records.specs.declared.ids.Slot.{Slot}
@@ -15,7 +14,6 @@ use Rattle.records.specs.declared.ids.SlotOption.the-variants as slot
 use Rattle.records.specs.declared.task.TaskControlBlock.{TaskControlBlock}
 use Rattle.records.specs.Mask.{permits}
 use Rattle.records.specs.Task.{emptyRecord}
-use Rattle.records.proofs.Cases.{split}
 use Rattle.queue.specs.declared.BandQueue.{BandQueue}
 use Rattle.queue.specs.Stored.{Holds}
 use Rattle.scheduler.specs.declared.answer.Answer.{Answer}
@@ -29,8 +27,8 @@ use Rattle.scheduler.specs.declared.answer.Value.the-variants as value
 use Rattle.scheduler.specs.declared.scheduler.QoSScheduler.{QoSScheduler}
 use Rattle.scheduler.specs.declared.scheduler.Reply.{Reply}
 use Rattle.scheduler.specs.State as state
-use Rattle.scheduler.specs.State.{State, noneByte, newState, holder, holderIn, holderOf, firstPlace}
-use Rattle.scheduler.specs.Accepted.{Accepted, MayHold}
+use Rattle.scheduler.specs.State.{noneByte, newState, holderIn, holderOf, firstPlace}
+use Rattle.scheduler.specs.Accepted.{Accepted}
 use Rattle.scheduler.specs.Outcome.{answered}
 use Rattle.scheduler.specs.Queries.{canRunOnCore, hasTid, taskIndexForTid, taskAt, recordOf, currentTaskOnCpu, coreOf}
 use Rattle.scheduler.specs.Ticking.{targetOf, same, planOf}
@@ -38,9 +36,9 @@ use Rattle.scheduler.specs.Waking.{released}
 use Rattle.scheduler.specs.Demand3.{Each}
 use Rattle.scheduler.specs.Scheduler.{queuesOf, abs, Valid, IsNew, planFrom}
 use Rattle.scheduler.proofs.Calls.{new-accepted}
-use Rattle.scheduler.proofs.Invariant.{used-in-table}
+use Rattle.scheduler.proofs.Holders.{held, holder-below}
 use Rattle.scheduler.proofs.Searches.{search-found}
-use Rattle.scheduler.proofs.Stored.{slots, record-at, holder-at}
+use Rattle.scheduler.proofs.Stored.{slots, record-at}
 
 -- ---- the new scheduler
 
@@ -125,49 +123,30 @@ module _ (s : QoSScheduler) {n k : ℕ} (low : n < 64) (k-is : k ≡ firstPlace 
 
 -- ---- a core's holder
 
--- a number that stands for a slot is the slot's
-stands-for : (n : ℕ) (h : Slot) → holderIn n ≡ slot.Some h → (n ≡ h .0) × (n ≡ noneByte → ⊥)
-stands-for n h =
-    split (λ (b : Bool). cond b slot.None (slot.Some (record { 0 = n })) ≡ slot.Some h → (n ≡ h .0) × (n ≡ noneByte → ⊥)) (eqb n noneByte)
-    (λ _ e. let no : _≡_ {A = ℕ} 0 1 = cc in absurd (omega arith))
-    (λ other e. let is : _≡_ {A = Slot} (record { 0 = n }) h = cc in (ap (λ (x : Slot). x .0) is, eqb-false n noneByte other))
-
--- a holder is a slot of the table
-below : (s : State) → Accepted s → (c : ℕ) → c < 64 → (h : Slot) → holderOf s c ≡ slot.Some h → h .0 < 64
-below s a c low h is =
-    let found : (holder s c ≡ h .0) × (holder s c ≡ noneByte → ⊥) = stands-for (holder s c) h is in
-    ⊎-elim
-    (λ (none : holder s c ≡ noneByte). absurd (found .1 none))
-    (λ (m : MayHold (state.task s (holder s c))). subst (λ (n : ℕ). n < 64) (found .0) (used-in-table s (a .slots) (holder s c) (m .used)))
-    (a .holders c low)
-
 module _ {s : QoSScheduler} (v : Valid s) {c : ℕ} (low : c < 64) (d : ℕ) {o : SlotOption} (o-is : o ≡ holderIn (getD (s .current) c d)) where
-  held : o ≡ holderOf (abs s) c
-  held = o-is ∙ ap holderIn (holder-at s v c d low)
-
-  pub holder-below : {h : Slot} → o ≡ slot.Some h → h .0 < 64
-  holder-below {h} is = below (abs s) (v .accepted) c low h (sym held ∙ is)
+  read : o ≡ holderOf (abs s) c
+  read = sym (held v low d o-is)
 
   pub core-idle : o ≡ slot.None → task.None ≡ currentTaskOnCpu c (abs s)
   unfolding currentTaskOnCpu
-  core-idle none = rw (lt-leb 64 c low) (ap (λ (p : SlotOption). recordOf p (abs s)) (sym none ∙ held))
+  core-idle none = rw (lt-leb 64 c low) (ap (λ (p : SlotOption). recordOf p (abs s)) (sym none ∙ read))
 
   pub core-record : {h : Slot} → o ≡ slot.Some h → (dt : TaskControlBlock) → task.Some (getD (s .tasks) (h .0) dt) ≡ currentTaskOnCpu c (abs s)
   unfolding currentTaskOnCpu
   core-record {h} is dt =
-      rw (lt-leb 64 c low) (slot-record v dt (holder-below is) ∙ ap (λ (p : SlotOption). recordOf p (abs s)) (sym is ∙ held))
+      rw (lt-leb 64 c low) (slot-record v dt (holder-below v low d o-is is) ∙ ap (λ (p : SlotOption). recordOf p (abs s)) (sym is ∙ read))
 
   pub target-idle : o ≡ slot.None → Idle ≡ targetOf (holderOf (abs s) c) (abs s)
-  target-idle none = ap (λ (p : SlotOption). targetOf p (abs s)) (sym none ∙ held)
+  target-idle none = ap (λ (p : SlotOption). targetOf p (abs s)) (sym none ∙ read)
 
   pub target-slot : {h : Slot} → o ≡ slot.Some h → (dt : TaskControlBlock) → Task h (getD (s .tasks) (h .0) dt .cr3) ≡ targetOf (holderOf (abs s) c) (abs s)
   target-slot {h} is dt =
-      ap (λ (t : TaskControlBlock). Task h (t .cr3)) (record-at s v (h .0) dt (holder-below is))
-      ∙ ap (λ (p : SlotOption). targetOf p (abs s)) (sym is ∙ held)
+      ap (λ (t : TaskControlBlock). Task h (t .cr3)) (record-at s v (h .0) dt (holder-below v low d o-is is))
+      ∙ ap (λ (p : SlotOption). targetOf p (abs s)) (sym is ∙ read)
 
   -- whether there is a plan, the core's holder being `o` now
   tested : (previous : SlotOption) {b : Bool} → b ≡ same previous o → same previous (holderOf (abs s) c) ≡ b
-  tested previous b-is = ap (same previous) (sym held) ∙ sym b-is
+  tested previous b-is = ap (same previous) (sym read) ∙ sym b-is
 
   pub plan-same : (previous : SlotOption) {b : Bool} → b ≡ same previous o → b ≡ true → plan.None ≡ planOf previous (holderOf (abs s) c) (abs s)
   plan-same previous b-is equal = rw (tested previous b-is ∙ equal) refl

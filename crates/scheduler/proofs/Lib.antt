@@ -33,6 +33,7 @@ mod Promises
 mod OnSlots
 mod Seeking
 mod OnCores
+mod Holders
 mod OnTicks
 mod Answers
 mod Removals

@@ -25,10 +25,10 @@ use Rattle.scheduler.specs.declared.answer.Value.the-variants as value
 use Rattle.scheduler.specs.declared.call.Call.the-variants.{Schedule}
 use Rattle.scheduler.specs.declared.scheduler.QoSScheduler.{QoSScheduler}
 use Rattle.scheduler.specs.declared.scheduler.Reply.{Reply}
-use Rattle.scheduler.specs.State.{State, noneByte, bandOrder, task, queue, withBand}
+use Rattle.scheduler.specs.State.{noneByte, bandOrder, task, queue, withBand}
 use Rattle.scheduler.specs.Accepted.{ReadyOf}
-use Rattle.scheduler.specs.Outcome.{answered}
-use Rattle.scheduler.specs.Picking.{permitted, placeFor, choice, afterPick, ruleP, answerSlot, schedule}
+use Rattle.scheduler.specs.Outcome.{chosenAnswer}
+use Rattle.scheduler.specs.Picking.{permitted, placeFor, choice, afterPick, answerSlot, schedule}
 use Rattle.scheduler.specs.Ticking.{waitsBefore}
 use Rattle.scheduler.specs.Scheduler.{queuesOf, abs, Valid, Meets, Hold, toldBy}
 use Rattle.scheduler.proofs.Invariant.{ready-in-table}
@@ -83,7 +83,7 @@ module _ {s : QoSScheduler} (v : Valid s) {core band place : ℕ} (k : Seeking (
       -- the entry leaves, and runs on the core
       pub schedule-picked : {a : Answer} {u : TaskControlBlock} {taken : Taken} → core < 64 → t ≡ true → Take (getD (s .queues) band dq) place taken →
           u ≡ picked (getD (s .tasks) (e .0) d) →
-          a ≡ answered (pick.Some (record { slot = e; band = getD (s .tasks) (e .0) d .qos })) (value.Slot (slot.Some e)) →
+          a ≡ chosenAnswer e (getD (s .tasks) (e .0) d .qos) →
           Meets (Schedule core) s (record { answer = a; state = record { tasks = set (s .tasks) (e .0) u; queues = set (s .queues) band (taken .queue); current = set (s .current) core (e .0); «system_ticks_us» = s .«system_ticks_us» } })
       unfolding schedule abs
       schedule-picked {a} {u} {taken} below passes take u-is a-is =
@@ -93,7 +93,7 @@ module _ {s : QoSScheduler} (v : Valid s) {core band place : ℕ} (k : Seeking (
           let back : Hold (set (s .queues) band (taken .queue)) (withBand (queuesOf (s .queues)) b (takenAt (placeFor (abs s) core b) (queue (abs s) b))) =
           queue-back v b is dq (rw (found-place (abs s) core k b is e (sym entry-is ∙ some) (may ∙ passes)) (subst (λ (l : List ℕ). Holds (taken .queue) (takenAt place l)) (queue-at v b is dq) (take .queue-is))) in
           meets v (answerSlot (afterPick (abs s) core (pick.Some (record { slot = e; band = b })))) (ap answerSlot (P-below (abs s) core below ∙ ap (afterPick (abs s) core) first)) (back .whole)
-          (a-is ∙ (λ i. answered (pick.Some (record { slot = e; band = of-band i })) (value.Slot (slot.Some e))))
+          (a-is ∙ ap (chosenAnswer e) of-band)
           (λ i. record {
             tasks = set (s .tasks) (e .0) ((u-is ∙ ap picked read-so) i);
             queues = back .entries-are i;

@@ -1,15 +1,12 @@
 -- Yield, handoff and plan meet their contract: a law for each way out of the code. After a pick or a tick, who is to run on the core is its
 -- holder, so the code reads the plan's target off the core. Assumes nothing.
 use mathlib.Core.Path.{_≡_, refl, sym, ap, _∙_, subst}
-use mathlib.Core.Bool.{Bool, true, false, cond, not}
-use mathlib.Core.List.{List}
+use mathlib.Core.Bool.{true, false}
 use Prim.Native.Nat.{ℕ, _≤_, _<_}
 use native.Mathlib.Omega.{arith}
 use borrow.Author.Tests.{le-leb, lt-leb, ne-eqb}
-use lib.Dec.{eqb}
-use lib.ListN.{length, getD, set}
+use lib.ListN.{getD, set}
 use lib.Seq.{getD-set-same}
-use Rattle.records.specs.declared.band.QoSClass.{QoSClass}
 use Rattle.records.specs.declared.error.SchedError.the-variants.{NoSuchTask, NotBlocked}
 use Rattle.records.specs.declared.ids.Slot.{Slot}
 use Rattle.records.specs.declared.ids.SlotOption.{SlotOption}
@@ -20,36 +17,35 @@ use Rattle.records.specs.declared.task.TaskControlBlock.{TaskControlBlock}
 use Rattle.records.specs.Band.{IsBandCode}
 use Rattle.records.specs.State.{isState}
 use Rattle.records.specs.Task.{withState}
-use Rattle.records.proofs.Cases.{split, by-if}
+use Rattle.records.proofs.Cases.{by-if}
 use Rattle.queue.specs.declared.BandQueue.{BandQueue}
 use Rattle.queue.specs.declared.Pushed.{Pushed}
 use Rattle.queue.specs.Answers.{Push}
 use Rattle.queue.specs.Rules.{pushed}
 use Rattle.scheduler.specs.declared.answer.Answer.{Answer}
 use Rattle.scheduler.specs.declared.answer.PickOption.{PickOption}
-use Rattle.scheduler.specs.declared.answer.PickOption.the-variants as pick
 use Rattle.scheduler.specs.declared.answer.PlanOption.the-variants as plan
 use Rattle.scheduler.specs.declared.answer.Value.the-variants as value
 use Rattle.scheduler.specs.declared.call.Call.{Call}
 use Rattle.scheduler.specs.declared.call.Call.the-variants.{Schedule, Tick, Yield, Handoff, Plan}
 use Rattle.scheduler.specs.declared.scheduler.QoSScheduler.{QoSScheduler}
 use Rattle.scheduler.specs.declared.scheduler.Reply.{Reply}
-use Rattle.scheduler.specs.State.{State, noneByte, bandOrder, task, queue, holderIn, holderOf, withBand, withTask, withQueue}
-use Rattle.scheduler.specs.Accepted.{Accepted, MayHold}
-use Rattle.scheduler.specs.Outcome.{Outcome, Chosen, answered, done, refused}
-use Rattle.scheduler.specs.Picking.{choice, afterPick, ruleP, answerSlot, schedule}
-use Rattle.scheduler.specs.Waking.{enqueued, enqueue}
-use Rattle.scheduler.specs.Ticking.{gain, cleared, sliceOver, requeued, staysHolder, tickHolder, ticked, tick, planOf, answerPlan, yieldRunning, yieldHolder, yield, handoffIn, handoffHolder, handoff, planned}
+use Rattle.scheduler.specs.State.{State, noneByte, task, queue, holderIn, holderOf, withBand, withTask, withQueue}
+use Rattle.scheduler.specs.Accepted.{Accepted}
+use Rattle.scheduler.specs.Outcome.{Outcome, Chosen, answered}
+use Rattle.scheduler.specs.Picking.{afterPick, ruleP, schedule}
+use Rattle.scheduler.specs.Waking.{enqueued}
+use Rattle.scheduler.specs.Ticking.{gain, cleared, sliceOver, requeued, tickHolder, ticked, tick, planOf, answerPlan, yieldHolder, yield, handoffIn, handoffHolder, handoff, planned}
 use Rattle.scheduler.specs.Step.{step}
 use Rattle.scheduler.specs.Took.{outOfSlice}
-use Rattle.scheduler.specs.Scheduler.{queuesOf, abs, Whole, Valid, Meets, Hold, toldBy, refusedBy, planFrom}
+use Rattle.scheduler.specs.Scheduler.{queuesOf, abs, Valid, Meets, Hold, toldBy, refusedBy, planFrom}
 use Rattle.scheduler.proofs.Effects.{holder-is, enqueue-done, idle-in, clears, yields, slice-ends}
-use Rattle.scheduler.proofs.Invariant.{Invariant, accepted-invariant, invariant-accepted, used-in-table}
+use Rattle.scheduler.proofs.Holders.{harmless-accepted, known, held, holder-may, holder-below, let-go, let-go-is, let-go-valid}
+use Rattle.scheduler.proofs.Invariant.{Invariant}
 use Rattle.scheduler.proofs.Moves.{Harmless, time}
-use Rattle.scheduler.proofs.OnTicks.{harmless-accepted}
 use Rattle.scheduler.proofs.Picks.{Choice, taken, none, choice-is, pick-low, P-below}
-use Rattle.scheduler.proofs.Promises.{meets, meets-told, meets-refused}
-use Rattle.scheduler.proofs.Stored.{record-at, holder-at, pushed-back}
+use Rattle.scheduler.proofs.Promises.{meets-told, meets-refused}
+use Rattle.scheduler.proofs.Stored.{record-at, pushed-back}
 
 -- ---- who is to run holds the core
 
@@ -101,7 +97,7 @@ module _ {call : Call} {s : QoSScheduler} (previous : SlotOption) (core : ℕ) (
   planned-pick : {m : QoSScheduler} → Valid m → core < 64 → Meets (Schedule core) m reply → step call (abs s) ≡ answerPlan previous (ruleP core (abs m)) → Meets call s r
   unfolding schedule
   planned-pick {m} v low met by =
-      planned-as (ruleP core (abs m)) (met .valid) (ap (λ (a : Answer). a .pick) (met .answer-is)) (met .state-is) (P-runs (abs m) (accepted-invariant (abs m) (v .accepted)) core low) by
+      planned-as (ruleP core (abs m)) (met .valid) (ap (λ (a : Answer). a .pick) (met .answer-is)) (met .state-is) (P-runs (abs m) (known v) core low) by
 
 -- ---- plan
 
@@ -115,8 +111,8 @@ module _ {s : QoSScheduler} (v : Valid s) {core elapsed : ℕ} where
   unfolding planned tick
   plan-done d {o} {reply} low read-holder met told =
       planned-as o core reply told (ticked core elapsed (abs s)) (met .valid) (ap (λ (a : Answer). a .pick) (met .answer-is)) (met .state-is)
-      (ticked-runs (abs s) (accepted-invariant (abs s) (v .accepted)) core elapsed low)
-      (rw (lt-leb 64 core low) (rw (ap holderIn (sym (holder-at s v core d low)) ∙ sym read-holder) refl))
+      (ticked-runs (abs s) (known v) core elapsed low)
+      (rw (lt-leb 64 core low) (rw (held v low d read-holder) refl))
 
 -- ---- yield and handoff on a core of 64 and above
 
@@ -132,19 +128,13 @@ module _ {s : QoSScheduler} (v : Valid s) {core : ℕ} {r : Reply} (past : 64 �
 -- ---- on a core below 64, whose holder was read
 
 module _ {s : QoSScheduler} (v : Valid s) {core : ℕ} (low : core < 64) (d : ℕ) {o : SlotOption} (read-holder : o ≡ holderIn (getD (s .current) core d)) where
-  known : Invariant (abs s)
-  known = accepted-invariant (abs s) (v .accepted)
-
-  held : holderOf (abs s) core ≡ o
-  held = ap holderIn (sym (holder-at s v core d low)) ∙ sym read-holder
-
   yield-is : yield core (abs s) ≡ yieldHolder o core (abs s)
   unfolding yield
-  yield-is = rw (lt-leb 64 core low) (rw held refl)
+  yield-is = rw (lt-leb 64 core low) (rw (held v low d read-holder) refl)
 
   handoff-is : handoff core (abs s) ≡ handoffHolder o core (abs s)
   unfolding handoff
-  handoff-is = rw (lt-leb 64 core low) (rw held refl)
+  handoff-is = rw (lt-leb 64 core low) (rw (held v low d read-holder) refl)
 
   pub yield-none : {reply r : Reply} → o ≡ slot.None → Meets (Schedule core) s reply → r ≡ planFrom o core reply → Meets (Yield core) s r
   yield-none {reply} empty met told =
@@ -154,32 +144,15 @@ module _ {s : QoSScheduler} (v : Valid s) {core : ℕ} (low : core < 64) (d : �
   handoff-none empty is = meets-refused v NoSuchTask is (handoff-is ∙ ap (λ (p : SlotOption). handoffHolder p core (abs s)) empty)
 
   module _ (h : Slot) (some : o ≡ slot.Some h) where
-    may : MayHold (task (abs s) (h .0))
-    may = holder-is (abs s) known core h (held ∙ some)
-
-    pub holder-low : h .0 < 64
-    holder-low = used-in-table (abs s) (v .accepted .slots) (h .0) (may .used)
-
     yield-by : yield core (abs s) ≡ yieldHolder (slot.Some h) core (abs s)
     yield-by = yield-is ∙ ap (λ (p : SlotOption). yieldHolder p core (abs s)) some
-
-    -- the scheduler with no holder on the core
-    abbrev let-go : QoSScheduler
-    let-go = record { tasks = s .tasks; queues = s .queues; current = set (s .current) core noneByte; «system_ticks_us» = s .«system_ticks_us» }
-
-    let-go-is : abs let-go ≡ cleared core (abs s)
-    unfolding abs
-    let-go-is = refl
-
-    pub let-go-valid : Valid let-go
-    let-go-valid = record { whole = v .whole; accepted = subst Accepted (sym let-go-is) (harmless-accepted (clears (abs s) known core low)) }
 
     module _ (dt : TaskControlBlock) where
       abbrev read : TaskControlBlock
       read = getD (s .tasks) (h .0) dt
 
       read-is : read ≡ task (abs s) (h .0)
-      read-is = record-at s v (h .0) dt holder-low
+      read-is = record-at s v (h .0) dt (holder-below v low d read-holder some)
 
       handoff-by : (st : ThreadState) → read .state ≡ st → handoff core (abs s) ≡ handoffIn st h core (abs s)
       handoff-by st is =
@@ -189,9 +162,9 @@ module _ {s : QoSScheduler} (v : Valid s) {core : ℕ} (low : core < 64) (d : �
       pub handoff-running : {r : Reply} → read .state ≡ Running → r ≡ toldBy s (value.Plan plan.None) → Meets (Handoff core) s r
       handoff-running so is = meets-told v (value.Plan plan.None) is (handoff-by Running so)
 
-      pub handoff-blocked : {reply r : Reply} → read .state ≡ Blocked → Meets (Schedule core) let-go reply → r ≡ planFrom (slot.Some h) core reply → Meets (Handoff core) s r
+      pub handoff-blocked : {reply r : Reply} → read .state ≡ Blocked → Meets (Schedule core) (let-go s core) reply → r ≡ planFrom (slot.Some h) core reply → Meets (Handoff core) s r
       handoff-blocked {reply} so met told =
-          planned-pick (slot.Some h) core reply told let-go-valid low met (handoff-by Blocked so ∙ ap (λ (t : State). answerPlan (slot.Some h) (ruleP core t)) (sym let-go-is))
+          planned-pick (slot.Some h) core reply told (let-go-valid v low) low met (handoff-by Blocked so ∙ ap (λ (t : State). answerPlan (slot.Some h) (ruleP core t)) (sym (let-go-is s core)))
 
       pub handoff-ready : {r : Reply} → read .state ≡ Ready → r ≡ refusedBy s NotBlocked → Meets (Handoff core) s r
       handoff-ready so is = meets-refused v NotBlocked is (handoff-by Ready so)
@@ -230,11 +203,11 @@ module _ {s : QoSScheduler} (v : Valid s) {core : ℕ} (low : core < 64) (d : �
         pub sent-back-valid : Valid sent-back
         sent-back-valid = record {
           whole = back .whole;
-          accepted = subst Accepted (sym sent-back-is) (harmless-accepted (yields (abs s) known (h .0) core low (may .used) idle));
+          accepted = subst Accepted (sym sent-back-is) (harmless-accepted (yields (abs s) (known v) (h .0) core low (holder-may v low d read-holder some .used) idle));
         }
 
         yields-to : yield core (abs s) ≡ answerPlan (slot.Some h) (ruleP core (abs sent-back))
-        yields-to = yield-by ∙ rw runs (rw (enqueue-done (abs s) known (h .0) holder-low (may .used) idle) (ap (λ (t : State). answerPlan (slot.Some h) (ruleP core t)) (sym sent-back-is)))
+        yields-to = yield-by ∙ rw runs (rw (enqueue-done (abs s) (known v) (h .0) (holder-below v low d read-holder some) (holder-may v low d read-holder some .used) idle) (ap (λ (t : State). answerPlan (slot.Some h) (ruleP core t)) (sym sent-back-is)))
 
         pub yield-running : {reply r : Reply} → Meets (Schedule core) sent-back reply → r ≡ planFrom (slot.Some h) core reply → Meets (Yield core) s r
         yield-running {reply} met told = planned-pick (slot.Some h) core reply told sent-back-valid low met yields-to

@@ -1,12 +1,12 @@
 -- The calls on slots meet their contract: a law for each way out of the code. `s` is the scheduler that the call found, `r` what it gave back,
 -- and `read` the record that it read. Assumes nothing.
-use mathlib.Core.Path.{_≡_, refl, sym, ap, _∙_, subst}
+use mathlib.Core.Path.{_≡_, refl, sym, ap, _∙_}
 use mathlib.Core.Bool.{true, false, not}
 use mathlib.Core.List.{List, map}
 use Prim.Native.Nat.{ℕ, _+_, _≤_, _<_}
 use native.Mathlib.Omega.{arith}
 use borrow.Author.Tests.{le-leb, lt-leb, lt-ltb, le-ltb, not-false, not-true}
-use lib.Dec.{leb, eqb}
+use lib.Dec.{eqb}
 use lib.ListN.{getD, set}
 use Rattle.records.specs.declared.band.QoSClass.{QoSClass}
 use Rattle.records.specs.declared.error.SchedError.the-variants.{TableFull, QueueFull, NoSuchTask, AlreadyReady, AlreadyBlocked, NotBlocked}
@@ -15,15 +15,15 @@ use Rattle.records.specs.declared.ids.SlotOption.the-variants as slot
 use Rattle.records.specs.declared.ids.Tid.{Tid}
 use Rattle.records.specs.declared.state.ThreadState.the-variants.{Ready, Running, Blocked}
 use Rattle.records.specs.declared.task.TaskControlBlock.{TaskControlBlock}
-use Rattle.records.specs.Band.{IsBandCode, bandCode}
+use Rattle.records.specs.Band.{IsBandCode}
 use Rattle.records.specs.Mask.{storedMask}
 use Rattle.records.specs.State.{isState}
 use Rattle.records.specs.Task.{created, withState, withMask, terminated, blocked}
 use Rattle.queue.specs.declared.BandQueue.{BandQueue}
 use Rattle.queue.specs.declared.Pushed.{Pushed}
 use Rattle.queue.specs.Answers.{Push}
-use Rattle.queue.specs.Stored.{entries, Holds}
-use Rattle.queue.specs.Rules.{full, takes, pushed, without}
+use Rattle.queue.specs.Stored.{entries}
+use Rattle.queue.specs.Rules.{full, pushed, without}
 use Rattle.queue.proofs.Rules.{takes-slot}
 use Rattle.scheduler.specs.declared.answer.Answer.{Answer}
 use Rattle.scheduler.specs.declared.answer.PickOption.the-variants as pick
@@ -31,10 +31,10 @@ use Rattle.scheduler.specs.declared.answer.Value.the-variants as value
 use Rattle.scheduler.specs.declared.call.Call.the-variants.{Create, Affinity, Terminate, Block, Wake, Enqueue}
 use Rattle.scheduler.specs.declared.scheduler.QoSScheduler.{QoSScheduler}
 use Rattle.scheduler.specs.declared.scheduler.Reply.{Reply}
-use Rattle.scheduler.specs.State.{State, Queues, firstPlace, task, queue, ofBand, withBand, eachQueue, withTask}
+use Rattle.scheduler.specs.State.{firstPlace, task, queue, withBand, eachQueue, withTask}
 use Rattle.scheduler.specs.Outcome.{answered, done}
-use Rattle.scheduler.specs.Scheduler.{queuesOf, abs, Whole, Valid, Meets, Hold, refusedBy}
-use Rattle.scheduler.specs.Waking.{freeSlot, create, released, affinity, outOfHolders, terminate, missing, outOfQueues, block, wake, coreHolding, isHeld, enqueued, enqueue}
+use Rattle.scheduler.specs.Scheduler.{queuesOf, abs, Valid, Meets, Hold, refusedBy}
+use Rattle.scheduler.specs.Waking.{freeSlot, create, released, affinity, outOfHolders, terminate, missing, outOfQueues, block, wake, enqueued, enqueue}
 use Rattle.scheduler.proofs.Promises.{meets, meets-refused, meets-as}
 use Rattle.scheduler.proofs.Stored.{slots, record-at, queue-at, pushed-back}
 use Rattle.scheduler.proofs.Searches.{search-on, search-found}

@@ -1,20 +1,20 @@
 -- The tick meets its contract: a law for each way out of the code, and for each state that it hands on to a pick. Assumes nothing.
 use mathlib.Core.Path.{_≡_, refl, sym, ap, _∙_, subst}
-use mathlib.Core.Bool.{Bool, true, false, cond, _||_, or-true}
+use mathlib.Core.Bool.{Bool, true, false, cond, or-true}
 use mathlib.Core.List.{List}
+use mathlib.Core.Logic.{_⊎_, ⊎-elim}
 use Prim.Native.Nat.{ℕ, _+_, _%_, _^_, _≤_, _<_}
 use native.Mathlib.Omega.{arith}
 use borrow.Author.Tests.{le-leb, lt-leb}
 use lib.Dec.{leb}
 use lib.ListN.{length, getD, set}
 use lib.Seq.{getD-set-same, set-set}
-use Rattle.records.specs.declared.band.QoSClass.{QoSClass}
 use Rattle.records.specs.declared.ids.Slot.{Slot}
 use Rattle.records.specs.declared.ids.SlotOption.{SlotOption}
 use Rattle.records.specs.declared.ids.SlotOption.the-variants as slot
 use Rattle.records.specs.declared.state.ThreadState.the-variants.{Ready, Blocked}
 use Rattle.records.specs.declared.task.TaskControlBlock.{TaskControlBlock}
-use Rattle.records.specs.Band.{IsBandCode, bandCode}
+use Rattle.records.specs.Band.{IsBandCode}
 use Rattle.records.specs.State.{isState}
 use Rattle.records.specs.Task.{emptyRecord, withState, withConsumed}
 use Rattle.queue.specs.declared.BandQueue.{BandQueue}
@@ -27,29 +27,22 @@ use Rattle.scheduler.specs.declared.answer.Value.the-variants as value
 use Rattle.scheduler.specs.declared.call.Call.the-variants.{Schedule, Tick}
 use Rattle.scheduler.specs.declared.scheduler.QoSScheduler.{QoSScheduler}
 use Rattle.scheduler.specs.declared.scheduler.Reply.{Reply}
-use Rattle.scheduler.specs.State.{State, noneByte, task, queue, holderIn, holderOf, withTask, withBand, withQueue}
-use Rattle.scheduler.specs.Accepted.{Accepted, MayHold}
+use Rattle.scheduler.specs.State.{State, task, queue, holderIn, withTask, withBand, withQueue}
+use Rattle.scheduler.specs.Accepted.{Accepted}
 use Rattle.scheduler.specs.Outcome.{answered}
 use Rattle.scheduler.specs.Picking.{ruleP, answerSlot, schedule}
-use Rattle.scheduler.specs.Ticking.{gain, cleared, waitsBefore, sliceOver, requeued, staysHolder, ticked, tick}
-use Rattle.scheduler.specs.Took.{backToQueue, outOfSlice}
+use Rattle.scheduler.specs.Ticking.{gain, waitsBefore, sliceOver, requeued, staysHolder, ticked, tick}
+use Rattle.scheduler.specs.Took.{outOfSlice}
 use Rattle.scheduler.specs.Scheduler.{queuesOf, abs, Whole, Valid, Meets, Hold, toldBy}
-use Rattle.scheduler.proofs.Effects.{holder-is, clears, slice-ends}
-use Rattle.scheduler.proofs.Invariant.{Invariant, accepted-invariant, invariant-accepted, used-in-table}
+use Rattle.scheduler.proofs.Effects.{slice-ends}
+use Rattle.scheduler.proofs.Holders.{harmless-accepted, known, held, holder-may, holder-below, let-go, let-go-is}
 use Rattle.scheduler.proofs.Moves.{Harmless, time}
 use Rattle.scheduler.proofs.Promises.{meets, meets-told, meets-as}
-use Rattle.scheduler.proofs.Stored.{record-at, holder-at, pushed-back}
-
--- what a change that harms nobody leaves is accepted
-pub harmless-accepted : {s t : State} → Harmless (λ (x : ℕ). ⊥) s t → Accepted t
-harmless-accepted {t = t} f = invariant-accepted t (f .invariant)
+use Rattle.scheduler.proofs.Stored.{record-at, pushed-back}
 
 -- ---- the end of a slice, where the record is stored once
 
 module _ (s : State) (i : ℕ) (there : i < length (s .tasks)) where
-  zeroed : TaskControlBlock
-  zeroed = withConsumed (task s i) 0
-
   stored : task (withTask s i (withConsumed (task s i) 0)) i ≡ withConsumed (task s i) 0
   stored = getD-set-same (s .tasks) i (withConsumed (task s i) 0) emptyRecord there
 
@@ -81,52 +74,29 @@ module _ {s : QoSScheduler} (v : Valid s) {core micros : ℕ} (elapsed : ℕ) (l
   unfolding abs
   later-is = λ i. record { tasks = s .tasks; queues = queuesOf (s .queues); holders = s .current; micros = gained i }
 
-  known : Invariant (gain elapsed (abs s))
-  known = time {safe = λ (x : ℕ). ⊥} (abs s) (accepted-invariant (abs s) (v .accepted)) (gain elapsed (abs s) .micros) .invariant
+  gone-by : Harmless (λ (x : ℕ). ⊥) (abs s) (gain elapsed (abs s))
+  gone-by = time (abs s) (known v) (gain elapsed (abs s) .micros)
 
   pub later-valid : Valid later
-  later-valid = record { whole = v .whole; accepted = subst Accepted (sym later-is) (invariant-accepted (gain elapsed (abs s)) known) }
+  later-valid = record { whole = v .whole; accepted = subst Accepted (sym later-is) (harmless-accepted gone-by) }
 
   module _ (d : ℕ) {o : SlotOption} (read-holder : o ≡ holderIn (getD (s .current) core d)) where
-    holder-so : holderOf (abs s) core ≡ o
-    holder-so = ap holderIn (sym (holder-at s v core d low)) ∙ sym read-holder
-
     pub tick-none : {r : Reply} → o ≡ slot.None → Meets (Schedule core) later r → Meets (Tick core elapsed) s r
     unfolding tick ticked schedule
-    tick-none none m = meets-as m (rw (lt-leb 64 core low) (rw (holder-so ∙ none) (rw later-is refl)))
+    tick-none none m = meets-as m (rw (lt-leb 64 core low) (rw (held v low d read-holder ∙ none) (rw later-is refl)))
 
     module _ (h : Slot) (some : o ≡ slot.Some h) where
-      may : MayHold (task (abs s) (h .0))
-      may = holder-is (abs s) (accepted-invariant (abs s) (v .accepted)) core h (holder-so ∙ some)
-
-      pub holder-low : h .0 < 64
-      holder-low = used-in-table (abs s) (v .accepted .slots) (h .0) (may .used)
-
       module _ (dt : TaskControlBlock) where
         abbrev read : TaskControlBlock
         read = getD (s .tasks) (h .0) dt
 
         read-is : read ≡ task (abs s) (h .0)
-        read-is = record-at s v (h .0) dt holder-low
+        read-is = record-at s v (h .0) dt (holder-below v low d read-holder some)
 
         -- the holder is Blocked: the core lets go of it
-        module _ (so : isState (read .state) Blocked ≡ true) where
-          abbrev let-go : QoSScheduler
-          let-go = record { tasks = s .tasks; queues = s .queues; current = set (s .current) core noneByte; «system_ticks_us» = micros }
-
-          let-go-is : abs let-go ≡ cleared core (gain elapsed (abs s))
-          unfolding abs
-          let-go-is = λ i. record { tasks = s .tasks; queues = queuesOf (s .queues); holders = set (s .current) core noneByte; micros = gained i }
-
-          pub let-go-valid : Valid let-go
-          let-go-valid = record {
-            whole = v .whole;
-            accepted = subst Accepted (sym let-go-is) (harmless-accepted (clears (gain elapsed (abs s)) known core low));
-          }
-
-          pub tick-blocked : {r : Reply} → Meets (Schedule core) let-go r → Meets (Tick core elapsed) s r
-          unfolding tick ticked schedule
-          tick-blocked m = meets-as m (rw (lt-leb 64 core low) (rw (holder-so ∙ some) (rw (sym read-is) (rw so (rw let-go-is refl)))))
+        pub tick-blocked : {r : Reply} → isState (read .state) Blocked ≡ true → Meets (Schedule core) (let-go later core) r → Meets (Tick core elapsed) s r
+        unfolding tick ticked schedule
+        tick-blocked so m = meets-as m (rw (lt-leb 64 core low) (rw (held v low d read-holder ∙ some) (rw (sym read-is) (rw so (rw (let-go-is later core) (rw later-is refl))))))
 
         module _ (so : isState (read .state) Blocked ≡ false) where
           awake : isState (task (abs s) (h .0) .state) Blocked ≡ false
@@ -136,7 +106,7 @@ module _ {s : QoSScheduler} (v : Valid s) {core micros : ℕ} (elapsed : ℕ) (l
           comes-to : (b : Bool) → sliceOver (h .0) elapsed core (gain elapsed (abs s)) ≡ b →
               tick core elapsed (abs s) ≡ answerSlot (cond b (ruleP core (requeued (h .0) (gain elapsed (abs s)))) (staysHolder h elapsed (gain elapsed (abs s))))
           unfolding tick ticked
-          comes-to b test = rw (lt-leb 64 core low) (rw (holder-so ∙ some) (rw awake (rw test refl)))
+          comes-to b test = rw (lt-leb 64 core low) (rw (held v low d read-holder ∙ some) (rw awake (rw test refl)))
 
           -- the test, on what was read
           waits-so : {b : Bool} → waitsBefore (read .qos) (abs later) core ≡ b → waitsBefore (task (abs s) (h .0) .qos) (gain elapsed (abs s)) core ≡ b
@@ -145,6 +115,12 @@ module _ {s : QoSScheduler} (v : Valid s) {core micros : ℕ} (elapsed : ℕ) (l
           goes-on : read .«consumed_slice_us» + elapsed < read .«slice_budget_us» → waitsBefore (read .qos) (abs later) core ≡ false →
               sliceOver (h .0) elapsed core (gain elapsed (abs s)) ≡ false
           goes-on short nobody = rw (waits-so nobody) (rw (sym read-is) (rw (lt-leb (read .«slice_budget_us») (read .«consumed_slice_us» + elapsed) short) refl))
+
+          used-up : read .«slice_budget_us» ≤ read .«consumed_slice_us» + elapsed → sliceOver (h .0) elapsed core (gain elapsed (abs s)) ≡ true
+          used-up past = rw (sym read-is) (rw (le-leb (read .«slice_budget_us») (read .«consumed_slice_us» + elapsed) past) refl)
+
+          gives-way : waitsBefore (read .qos) (abs later) core ≡ true → sliceOver (h .0) elapsed core (gain elapsed (abs s)) ≡ true
+          gives-way waits = rw (waits-so waits) (or-true (leb (task (abs s) (h .0) .«slice_budget_us») (task (abs s) (h .0) .«consumed_slice_us» + elapsed)))
 
           -- the slice goes on
           pub tick-stays : {a : Answer} {u : TaskControlBlock} → read .«consumed_slice_us» + elapsed < read .«slice_budget_us» →
@@ -157,19 +133,16 @@ module _ {s : QoSScheduler} (v : Valid s) {core micros : ℕ} (elapsed : ℕ) (l
               meets v (answerSlot (staysHolder h elapsed (gain elapsed (abs s)))) (comes-to false over) (v .whole) a-is
               (λ i. record { tasks = set (s .tasks) (h .0) ((u-is ∙ ap (λ (t : TaskControlBlock). withConsumed t (t .«consumed_slice_us» + elapsed)) read-is) i); queues = queuesOf (s .queues); holders = s .current; micros = gained i })
 
-          -- the slice is over
-          pub used-up : read .«slice_budget_us» ≤ read .«consumed_slice_us» + elapsed → sliceOver (h .0) elapsed core (gain elapsed (abs s)) ≡ true
-          used-up past = rw (sym read-is) (rw (le-leb (read .«slice_budget_us») (read .«consumed_slice_us» + elapsed) past) refl)
+          -- the slice is over: an earlier band's entry waits, or the budget is reached
+          module _ (why : (waitsBefore (read .qos) (abs later) core ≡ true) ⊎ (read .«slice_budget_us» ≤ read .«consumed_slice_us» + elapsed)) where
+            over : sliceOver (h .0) elapsed core (gain elapsed (abs s)) ≡ true
+            over = ⊎-elim (λ w. gives-way w) (λ u. used-up u) why
 
-          pub gives-way : waitsBefore (read .qos) (abs later) core ≡ true → sliceOver (h .0) elapsed core (gain elapsed (abs s)) ≡ true
-          gives-way waits = rw (waits-so waits) (or-true (leb (task (abs s) (h .0) .«slice_budget_us») (task (abs s) (h .0) .«consumed_slice_us» + elapsed)))
-
-          module _ (over : sliceOver (h .0) elapsed core (gain elapsed (abs s)) ≡ true) where
             ends : Harmless (λ (x : ℕ). ⊥) (gain elapsed (abs s)) (outOfSlice (h .0) (gain elapsed (abs s))) × (requeued (h .0) (gain elapsed (abs s)) ≡ outOfSlice (h .0) (gain elapsed (abs s)))
-            ends = slice-ends (gain elapsed (abs s)) known (h .0) (may .used)
+            ends = slice-ends (gain elapsed (abs s)) (gone-by .invariant) (h .0) (holder-may v low d read-holder some .used)
 
             there : h .0 < length (abs s .tasks)
-            there = omega (arith, holder-low, v .accepted .slots)
+            there = omega (arith, holder-below v low d read-holder some, v .accepted .slots)
 
             -- a scheduler that holds what is left at the end of the slice
             ended-valid : {m : QoSScheduler} → Whole (m .queues) → abs m ≡ outOfSlice (h .0) (gain elapsed (abs s)) → Valid m

@@ -1,12 +1,10 @@
 -- What a call promises, from what it did: any call, one that is refused or changes nothing, and one that ends as another does. Assumes nothing.
 use mathlib.Core.Path.{_≡_, refl, sym, ap, _∙_, subst}
 use Rattle.records.specs.declared.error.SchedError.{SchedError}
-use Rattle.scheduler.specs.declared.answer.Answer.{Answer}
 use Rattle.scheduler.specs.declared.answer.Value.{Value}
 use Rattle.scheduler.specs.declared.call.Call.{Call}
 use Rattle.scheduler.specs.declared.scheduler.QoSScheduler.{QoSScheduler}
 use Rattle.scheduler.specs.declared.scheduler.Reply.{Reply}
-use Rattle.scheduler.specs.State.{State}
 use Rattle.scheduler.specs.Accepted.{Accepted}
 use Rattle.scheduler.specs.Outcome.{Outcome, done, refused}
 use Rattle.scheduler.specs.Step.{step}

@@ -1,6 +1,6 @@
 // What a call answers: a status, the pick that was made, and a value.
 ghost use mathlib.Core.Path.{_≡_};
-ghost use Rattle.scheduler.specs.Outcome.{answered, refusal};
+ghost use Rattle.scheduler.specs.Outcome.{answered, chosenAnswer, refusal};
 use records::QoSClass;
 use records::SchedError;
 use records::Slot;
@@ -23,6 +23,17 @@ impl Answer {
             status: Status::Done,
             pick,
             value,
+        }
+    }
+
+    // Done: the slot that was picked is who is to run.
+    pub(crate) fn chosen(slot: Slot, band: QoSClass) -> Self
+        ensures { λ r. ⌜ r ≡ chosenAnswer slot band ⌝ }
+    {
+        Answer {
+            status: Status::Done,
+            pick: PickOption::Some(Pick { slot, band }),
+            value: Value::Slot(SlotOption::Some(slot)),
         }
     }
 

@@ -1,8 +1,6 @@
 // Picking: rule P, which schedule is and to which tick, yield and handoff come.
 ghost use Rattle.scheduler.specs.Scheduler.{Valid, Meets};
 use crate::answer::Answer;
-use crate::answer::Pick;
-use crate::answer::PickOption;
 use crate::answer::Value;
 use crate::call::Call;
 use crate::scheduler::NO_HOLDER;
@@ -52,10 +50,7 @@ impl QoSScheduler {
                         self.tasks[index] = task.picked();
                         self.current[core] = index as u8;
                         return Reply {
-                            answer: Answer::done(
-                                PickOption::Some(Pick { slot, band: qos }),
-                                Value::Slot(SlotOption::Some(slot)),
-                            ),
+                            answer: Answer::chosen(slot, qos),
                             state: self,
                         };
                     }

@@ -38,12 +38,12 @@ impl QoSScheduler {
         requires { ⌜ Valid self ⌝ }
         ensures { λ r. ⌜ Meets (Call.Tick core «elapsed_us») self r ⌝ }
     {
+        let now = std::num::wrapping_add_u64(self.system_ticks_us, elapsed_us as u64);
         if core >= MAX_CPUS {
             return self.told(Value::Slot(SlotOption::None));
         }
-        self.system_ticks_us = std::num::wrapping_add_u64(self.system_ticks_us, elapsed_us as u64);
-        let holder = holder_of(self.current[core]);
-        let SlotOption::Some(slot) = holder else {
+        self.system_ticks_us = now;
+        let SlotOption::Some(slot) = holder_of(self.current[core]) else {
             return self.schedule_on_cpu(core);
         };
         let index = slot.0;
@@ -58,7 +58,7 @@ impl QoSScheduler {
         if charged < task.slice_budget_us as u64 && !self.waits_before(qos, core) {
             self.tasks[index] = task.with_consumed(charged as u32);
             return Reply {
-                answer: Answer::done(PickOption::None, Value::Slot(holder)),
+                answer: Answer::done(PickOption::None, Value::Slot(SlotOption::Some(slot))),
                 state: self,
             };
         }

@@ -1,3 +1,4 @@
+-- `QoSScheduler::apply` meets its contract: each arm gives what the method for the call ensures, or tells what the query ensures. Assumes nothing.
 use mathlib.Core.Path.{refl, ap}
 use Rattle.scheduler.specs.declared.answer.Value.the-variants as value
 use Rattle.scheduler.proofs.Promises.{meets-call, meets-query}

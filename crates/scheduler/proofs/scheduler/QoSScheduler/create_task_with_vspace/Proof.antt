@@ -1,14 +1,13 @@
+-- `QoSScheduler::create_task_with_vspace` meets its contract: no slot before `free` is free. Assumes nothing.
 use mathlib.Core.Path.{_≡_, refl}
 use Prim.Native.Nat.{_-_, _≤_}
 use native.Mathlib.Omega.{arith}
 use borrow.Author.Needs.{needs}
 use Rattle.scheduler.specs.Scheduler.{abs, Valid}
 use Rattle.scheduler.specs.Waking.{freeSlot}
-use Rattle.scheduler.proofs.Promises.{meets-from}
 use Rattle.scheduler.proofs.OnSlots.{create-on, create-full, create-done}
-use Rattle.scheduler.proofs.scheduler.QoSScheduler.create_task_with_vspace.Statement.{
-  statement,
-}
+use Rattle.scheduler.proofs.Promises.{meets-from}
+use Rattle.scheduler.proofs.scheduler.QoSScheduler.create_task_with_vspace.Statement.{statement}
 use Rattle.scheduler.proofs.scheduler.QoSScheduler.create_task_with_vspace.Tie as tie
 
 abbrev Inv-loop : tie.InvT-loop
@@ -21,13 +20,18 @@ loop-holds : tie.Need-loop-holds Inv-loop μ-loop
 loop-holds c = (refl, (c .pre, omega arith))
 
 returns : tie.Need-returns Inv-loop μ-loop
-returns c = meets-from (c .before .before .before .before .loop .inv .0) (create-done (c .before .before .before .before .loop .inv .1 .0) _ (c .before .before .before .before .loop .inv .1 .1) (c .before .before .before .loop-test .taken) _ (c .before .before .if1 .taken) (c .before .created .ensures) (c .done .ensures))
+returns c =
+    meets-from (c .before .before .before .before .loop .inv .0)
+    (create-done (c .before .before .before .before .loop .inv .1 .0) _ (c .before .before .before .before .loop .inv .1 .1) (c .before .before .before .loop-test .taken) _ (c .before .before .if1 .taken) (c .before .created .ensures) (c .done .ensures))
 
 loop-again : tie.Need-loop-again Inv-loop μ-loop
-loop-again c = (c .before .before .loop .inv .0, (c .before .before .loop .inv .1 .0, create-on (c .before .before .loop .inv .1 .0) _ (c .before .before .loop .inv .1 .1) _ (c .before .loop-test .taken) (c .if1 .left)))
+loop-again c =
+    (c .before .before .loop .inv .0, (c .before .before .loop .inv .1 .0, create-on (c .before .before .loop .inv .1 .0) _ (c .before .before .loop .inv .1 .1) _ (c .before .loop-test .taken) (c .if1 .left)))
 
 returns-2 : tie.Need-returns-2 Inv-loop μ-loop
-returns-2 c = meets-from (c .before .before .loop .inv .0) (create-full (c .before .before .loop .inv .1 .0) _ (c .before .before .loop .inv .1 .1) (c .before .loop-test .left) (c .refused .ensures))
+returns-2 c =
+    meets-from (c .before .before .loop .inv .0)
+    (create-full (c .before .before .loop .inv .1 .0) _ (c .before .before .loop .inv .1 .1) (c .before .loop-test .left) (c .refused .ensures))
 
 pub create-task-with-vspace-spec : {M : Type 1} → statement M
 create-task-with-vspace-spec =

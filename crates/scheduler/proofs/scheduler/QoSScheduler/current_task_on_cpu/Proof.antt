@@ -1,29 +1,36 @@
--- `QoSScheduler::current_task_on_cpu` meets its contract: a core past the last, one without a holder, and one with a holder, which is a slot
--- of the table. Assumes nothing.
+-- `QoSScheduler::current_task_on_cpu` meets its contract: a core past the last, one without a holder, and one with a holder. Assumes nothing.
 use mathlib.Core.Path.{sym}
 use native.Mathlib.Omega.{arith}
 use borrow.Author.Needs.{needs}
-use Rattle.scheduler.proofs.Answers.{holder-below, core-idle, core-record}
+use Rattle.scheduler.proofs.Answers.{core-idle, core-record}
 use Rattle.scheduler.proofs.Asked.{no-core-record}
-use Rattle.scheduler.proofs.scheduler.QoSScheduler.current_task_on_cpu.Statement.{
-  statement,
-}
+use Rattle.scheduler.proofs.Holders.{holder-below}
+use Rattle.scheduler.proofs.scheduler.QoSScheduler.current_task_on_cpu.Statement.{statement}
 use Rattle.scheduler.proofs.scheduler.QoSScheduler.current_task_on_cpu.Tie as tie
 
 returns : tie.Need-returns
 returns c = sym (no-core-record _ (c .if1 .taken) _)
 
 mul-t12 : tie.Need-mul-t12
-mul-t12 c = omega (arith, holder-below (c .before .before .before .before .before .before .pre) (c .before .before .before .before .before .if1 .left) _ (c .before .before .before .holder-of .ensures) (c .before .holder .given .1))
+mul-t12 c =
+    omega
+    (arith, holder-below (c .before .before .before .before .before .before .pre) (c .before .before .before .before .before .if1 .left) _ (c .before .before .before .holder-of .ensures) (c .before .holder .given .1))
 
 element-copy-out-t15 : tie.Need-element-copy-out-t15
-element-copy-out-t15 c = holder-below (c .before .before .before .before .before .before .pre) (c .before .before .before .before .before .if1 .left) _ (c .before .before .before .holder-of .ensures) (c .before .holder .given .1)
+element-copy-out-t15 c =
+    holder-below (c .before .before .before .before .before .before .pre) (c .before .before .before .before .before .if1 .left) _
+    (c .before .before .before .holder-of .ensures) (c .before .holder .given .1)
 
 returns-2 : tie.Need-returns-2
-returns-2 c = core-idle (c .before .before .before .before .before .pre) (c .before .before .before .before .if1 .left) _ (c .before .before .holder-of .ensures) (c .enum-told .given .1)
+returns-2 c =
+    core-idle (c .before .before .before .before .before .pre) (c .before .before .before .before .if1 .left) _
+    (c .before .before .holder-of .ensures) (c .enum-told .given .1)
 
 returns-3 : tie.Need-returns-3
-returns-3 c = core-record (c .before .before .before .before .before .before .before .pre) (c .before .before .before .before .before .before .if1 .left) _ (c .before .before .before .before .holder-of .ensures) (c .before .before .holder .given .1) _
+returns-3 c =
+    let at-pre = c .before .before .before .before .before .before .before in
+    core-record (at-pre .pre) (c .before .before .before .before .before .before .if1 .left) _
+    (c .before .before .before .before .holder-of .ensures) (c .before .before .holder .given .1) _
 
 pub current-task-on-cpu-spec : {M : Type 1} → statement M
 current-task-on-cpu-spec =

@@ -1,85 +1,167 @@
+-- `QoSScheduler::on_timer_tick_on_cpu` meets its contract: each way out cites its law, and each state handed on to a pick is valid. Assumes nothing.
 use mathlib.Core.Path.{sym, ap, _∙_}
-use mathlib.Core.Logic.{⊎-elim}
+use mathlib.Core.Logic.{⊎-map}
 use native.Mathlib.Omega.{arith}
+use borrow.Author.Needs.{needs}
 use borrow.Author.Tests.{not-true, not-false}
 use Rattle.records.specs.declared.state.ThreadState.the-variants.{Ready}
 use Rattle.records.specs.declared.task.TaskControlBlock.{TaskControlBlock}
 use Rattle.records.specs.Task.{withState}
-use Rattle.scheduler.proofs.OnTicks.{tick-past, later-valid, tick-none, holder-low, let-go-valid, tick-blocked, tick-stays, used-up, gives-way, spared-valid, tick-waits, sent-back-valid, tick-over}
+use Rattle.scheduler.proofs.Holders.{holder-below, let-go-valid}
+use Rattle.scheduler.proofs.OnTicks.{tick-past, later-valid, tick-none, tick-blocked, tick-stays, spared-valid, tick-waits, sent-back-valid, tick-over}
 use Rattle.scheduler.proofs.Stored.{ring-below}
-use borrow.Author.Needs.{needs}
-use Rattle.scheduler.proofs.scheduler.QoSScheduler.on_timer_tick_on_cpu.Statement.{
-  statement,
-}
+use Rattle.scheduler.proofs.scheduler.QoSScheduler.on_timer_tick_on_cpu.Statement.{statement}
 use Rattle.scheduler.proofs.scheduler.QoSScheduler.on_timer_tick_on_cpu.Tie as tie
 
 returns : tie.Need-returns
-returns c = tick-past (c .before .before .pre) (c .before .if1 .taken) (c .told .ensures)
+returns c = tick-past (search needs) (c .before .if1 .taken) (c .told .ensures)
 
 schedule-on-cpu-requires : tie.Need-schedule-on-cpu-requires
-schedule-on-cpu-requires c κs = later-valid (c .before .before .before .before .before .before .pre) _ (c .before .before .before .before .before .if1 .left) (c .before .before .before .before .wrapping-add-u64 .ensures)
+schedule-on-cpu-requires c κs =
+    later-valid (c .before .before .before .before .before .before .pre) _ (c .before .before .before .before .if1 .left)
+    (c .before .before .before .before .before .wrapping-add-u64 .ensures)
 
 returns-2 : tie.Need-returns-2
-returns-2 c = tick-none (c .before .before .before .before .before .before .before .pre) _ (c .before .before .before .before .before .before .if1 .left) (c .before .before .before .before .before .wrapping-add-u64 .ensures) _ (c .before .before .before .holder-of .ensures) (c .before .enum-told .given .1) (c .schedule-on-cpu .ensures)
+returns-2 c =
+    tick-none (search needs) _ (c .before .before .before .before .before .if1 .left)
+    (c .before .before .before .before .before .before .wrapping-add-u64 .ensures) _ (c .before .before .before .holder-of .ensures)
+    (c .before .enum-told .given .1) (c .schedule-on-cpu .ensures)
 
 mul-task : tie.Need-mul-task
-mul-task c = omega (arith, holder-low (c .before .before .before .before .before .before .before .pre) _ (c .before .before .before .before .before .before .if1 .left) (c .before .before .before .before .before .wrapping-add-u64 .ensures) _ (c .before .before .before .holder-of .ensures) _ (c .before .holder .given .1))
+mul-task c =
+    let at-pre = c .before .before .before .before .before .before .before in
+    omega
+    (arith, holder-below (at-pre .pre) (c .before .before .before .before .before .if1 .left) _ (c .before .before .before .holder-of .ensures) (c .before .slot .given .1))
 
 element-copy-out-task : tie.Need-element-copy-out-task
-element-copy-out-task c = holder-low (c .before .before .before .before .before .before .before .pre) _ (c .before .before .before .before .before .before .if1 .left) (c .before .before .before .before .before .wrapping-add-u64 .ensures) _ (c .before .before .before .holder-of .ensures) _ (c .before .holder .given .1)
+element-copy-out-task c =
+    let at-pre = c .before .before .before .before .before .before .before in
+    holder-below (at-pre .pre) (c .before .before .before .before .before .if1 .left) _ (c .before .before .before .holder-of .ensures)
+    (c .before .slot .given .1)
 
 schedule-on-cpu-requires-2 : tie.Need-schedule-on-cpu-requires-2
-schedule-on-cpu-requires-2 c κs = let-go-valid (c .before .before .before .before .before .before .before .before .before .before .pre) _ (c .before .before .before .before .before .before .before .before .before .if1 .left) (c .before .before .before .before .before .before .before .before .wrapping-add-u64 .ensures) _ (c .before .before .before .before .before .before .holder-of .ensures) _ (c .before .before .before .before .holder .given .1) _ (sym (c .before .is .ensures) ∙ c .if2 .taken)
+schedule-on-cpu-requires-2 c κs =
+    let at-if1 = c .before .before .before .before .before .before .before .before in
+    let-go-valid (later-valid (at-if1 .before .before .pre) _ (at-if1 .if1 .left) (at-if1 .before .wrapping-add-u64 .ensures)) (at-if1 .if1 .left)
 
 returns-3 : tie.Need-returns-3
-returns-3 c = tick-blocked (c .before .before .before .before .before .before .before .before .before .before .before .pre) _ (c .before .before .before .before .before .before .before .before .before .before .if1 .left) (c .before .before .before .before .before .before .before .before .before .wrapping-add-u64 .ensures) _ (c .before .before .before .before .before .before .before .holder-of .ensures) _ (c .before .before .before .before .before .holder .given .1) _ (sym (c .before .before .is .ensures) ∙ c .before .if2 .taken) (c .schedule-on-cpu2 .ensures)
+returns-3 c =
+    let at-holder-of = c .before .before .before .before .before .before .before in
+    tick-blocked (search needs) _ (at-holder-of .before .before .if1 .left) (at-holder-of .before .before .before .wrapping-add-u64 .ensures) _
+    (at-holder-of .holder-of .ensures) _ (c .before .before .before .before .before .slot .given .1) _
+    (sym (c .before .before .is .ensures) ∙ c .before .if2 .taken) (c .schedule-on-cpu2 .ensures)
 
 waits-before-requires : tie.Need-waits-before-requires
-waits-before-requires c κs = later-valid (c .before .before .before .before .before .before .before .before .before .before .before .before .before .pre) _ (c .before .before .before .before .before .before .before .before .before .before .before .before .if1 .left) (c .before .before .before .before .before .before .before .before .before .before .before .wrapping-add-u64 .ensures)
+waits-before-requires c κs =
+    let at-if1 = c .before .before .before .before .before .before .before .before .before .before .before in
+    later-valid (at-if1 .before .before .pre) _ (at-if1 .if1 .left) (at-if1 .before .wrapping-add-u64 .ensures)
 
 mul-t41 : tie.Need-mul-t41
-mul-t41 c = omega (arith, holder-low (c .before .before .before .before .before .before .before .before .before .before .before .before .before .before .before .before .pre) _ (c .before .before .before .before .before .before .before .before .before .before .before .before .before .before .before .if1 .left) (c .before .before .before .before .before .before .before .before .before .before .before .before .before .before .wrapping-add-u64 .ensures) _ (c .before .before .before .before .before .before .before .before .before .before .before .before .holder-of .ensures) _ (c .before .before .before .before .before .before .before .before .before .before .holder .given .1))
+mul-t41 c =
+    let at-slot = c .before .before .before .before .before .before .before .before .before .before in
+    omega
+    (arith, holder-below (at-slot .before .before .before .before .before .before .pre) (at-slot .before .before .before .before .if1 .left) _ (at-slot .before .before .holder-of .ensures) (at-slot .slot .given .1))
 
 element-set-from-self : tie.Need-element-set-from-self
-element-set-from-self c = holder-low (c .before .before .before .before .before .before .before .before .before .before .before .before .before .before .before .before .pre) _ (c .before .before .before .before .before .before .before .before .before .before .before .before .before .before .before .if1 .left) (c .before .before .before .before .before .before .before .before .before .before .before .before .before .before .wrapping-add-u64 .ensures) _ (c .before .before .before .before .before .before .before .before .before .before .before .before .holder-of .ensures) _ (c .before .before .before .before .before .before .before .before .before .before .holder .given .1)
+element-set-from-self c =
+    let at-slot = c .before .before .before .before .before .before .before .before .before .before in
+    holder-below (at-slot .before .before .before .before .before .before .pre) (at-slot .before .before .before .before .if1 .left) _
+    (at-slot .before .before .holder-of .ensures) (at-slot .slot .given .1)
 
 returns-4 : tie.Need-returns-4
-returns-4 c = tick-stays (c .before .before .before .before .before .before .before .before .before .before .before .before .before .before .before .before .before .pre) _ (c .before .before .before .before .before .before .before .before .before .before .before .before .before .before .before .before .if1 .left) (c .before .before .before .before .before .before .before .before .before .before .before .before .before .before .before .wrapping-add-u64 .ensures) _ (c .before .before .before .before .before .before .before .before .before .before .before .before .before .holder-of .ensures) _ (c .before .before .before .before .before .before .before .before .before .before .before .holder .given .1) _ (sym (c .before .before .before .before .before .before .before .before .is .ensures) ∙ c .before .before .before .before .before .before .before .if2 .left) (c .before .before .before .before .if3 .taken) (sym (c .before .before .before .waits-before .ensures) ∙ not-true _ (c .before .before .if4 .taken)) (c .before .with-consumed .ensures) (c .done .ensures)
+returns-4 c =
+    let at-if2 = c .before .before .before .before .before .before .before in
+    let at-if1 = at-if2 .before .before .before .before .before .before .before .before in
+    tick-stays (search needs) _ (at-if1 .if1 .left) (at-if1 .before .wrapping-add-u64 .ensures) _
+    (at-if2 .before .before .before .before .before .before .holder-of .ensures) _ (at-if2 .before .before .before .before .slot .given .1) _
+    (sym (at-if2 .before .is .ensures) ∙ at-if2 .if2 .left) (c .before .before .before .before .if3 .taken)
+    (sym (c .before .before .before .waits-before .ensures) ∙ not-true _ (c .before .before .if4 .taken)) (c .before .with-consumed .ensures)
+    (c .done .ensures)
 
-mul-t50 : tie.Need-mul-t50
-mul-t50 c = omega (arith, holder-low (c .before .before .before .before .before .before .before .before .before .before .before .before .before .before .before .before .pre) _ (c .before .before .before .before .before .before .before .before .before .before .before .before .before .before .before .if1 .left) (c .before .before .before .before .before .before .before .before .before .before .before .before .before .before .wrapping-add-u64 .ensures) _ (c .before .before .before .before .before .before .before .before .before .before .before .before .holder-of .ensures) _ (c .before .before .before .before .before .before .before .before .before .before .holder .given .1))
+mul-t51 : tie.Need-mul-t51
+mul-t51 c =
+    let at-slot = c .before .before .before .before .before .before .before .before .before .before in
+    omega
+    (arith, holder-below (at-slot .before .before .before .before .before .before .pre) (at-slot .before .before .before .before .if1 .left) _ (at-slot .before .before .holder-of .ensures) (at-slot .slot .given .1))
 
 element-set-from-self-2 : tie.Need-element-set-from-self-2
-element-set-from-self-2 c = holder-low (c .before .before .before .before .before .before .before .before .before .before .before .before .before .before .before .before .pre) _ (c .before .before .before .before .before .before .before .before .before .before .before .before .before .before .before .if1 .left) (c .before .before .before .before .before .before .before .before .before .before .before .before .before .before .wrapping-add-u64 .ensures) _ (c .before .before .before .before .before .before .before .before .before .before .before .before .holder-of .ensures) _ (c .before .before .before .before .before .before .before .before .before .before .holder .given .1)
+element-set-from-self-2 c =
+    let at-slot = c .before .before .before .before .before .before .before .before .before .before in
+    holder-below (at-slot .before .before .before .before .before .before .pre) (at-slot .before .before .before .before .if1 .left) _
+    (at-slot .before .before .holder-of .ensures) (at-slot .slot .given .1)
 
 schedule-on-cpu-requires-3 : tie.Need-schedule-on-cpu-requires-3
-schedule-on-cpu-requires-3 c κs = spared-valid (c .before .before .before .before .before .before .before .before .before .before .before .before .before .before .before .before .pre) _ (c .before .before .before .before .before .before .before .before .before .before .before .before .before .before .before .if1 .left) (c .before .before .before .before .before .before .before .before .before .before .before .before .before .before .wrapping-add-u64 .ensures) _ (c .before .before .before .before .before .before .before .before .before .before .before .before .holder-of .ensures) _ (c .before .before .before .before .before .before .before .before .before .before .holder .given .1) _ (sym (c .before .before .before .before .before .before .before .is .ensures) ∙ c .before .before .before .before .before .before .if2 .left) (⊎-elim (λ w. gives-way (c .before .before .before .before .before .before .before .before .before .before .before .before .before .before .before .before .pre) _ (c .before .before .before .before .before .before .before .before .before .before .before .before .before .before .before .if1 .left) (c .before .before .before .before .before .before .before .before .before .before .before .before .before .before .wrapping-add-u64 .ensures) _ (c .before .before .before .before .before .before .before .before .before .before .before .before .holder-of .ensures) _ (c .before .before .before .before .before .before .before .before .before .before .holder .given .1) _ (sym (c .before .before .before .before .before .before .before .is .ensures) ∙ c .before .before .before .before .before .before .if2 .left) (sym (w .1 .ensures) ∙ not-false _ (w .2 .left))) (λ e. used-up (c .before .before .before .before .before .before .before .before .before .before .before .before .before .before .before .before .pre) _ (c .before .before .before .before .before .before .before .before .before .before .before .before .before .before .before .if1 .left) (c .before .before .before .before .before .before .before .before .before .before .before .before .before .before .wrapping-add-u64 .ensures) _ (c .before .before .before .before .before .before .before .before .before .before .before .before .holder-of .ensures) _ (c .before .before .before .before .before .before .before .before .before .before .holder .given .1) _ (sym (c .before .before .before .before .before .before .before .is .ensures) ∙ c .before .before .before .before .before .before .if2 .left) (e .left)) (c .before .before .before .if3 .came)) (sym (c .before .before .is2 .ensures) ∙ c .before .if5 .taken) (c .with-consumed2 .ensures)
+schedule-on-cpu-requires-3 c κs =
+    let at-is = c .before .before .before .before .before .before .before in
+    let at-if1 = at-is .before .before .before .before .before .before .before in
+    spared-valid (at-if1 .before .before .pre) _ (at-if1 .if1 .left) (at-if1 .before .wrapping-add-u64 .ensures) _
+    (at-is .before .before .before .before .before .holder-of .ensures) _ (at-is .before .before .before .slot .given .1) _
+    (sym (at-is .is .ensures) ∙ c .before .before .before .before .before .before .if2 .left)
+    (⊎-map (λ w. sym (w .1 .ensures) ∙ not-false _ (w .2 .left)) (λ e. e .left) (c .before .before .before .if3 .came))
+    (sym (c .before .before .is2 .ensures) ∙ c .before .if5 .taken) (c .with-consumed2 .ensures)
 
 returns-5 : tie.Need-returns-5
-returns-5 c = tick-waits (c .before .before .before .before .before .before .before .before .before .before .before .before .before .before .before .before .before .pre) _ (c .before .before .before .before .before .before .before .before .before .before .before .before .before .before .before .before .if1 .left) (c .before .before .before .before .before .before .before .before .before .before .before .before .before .before .before .wrapping-add-u64 .ensures) _ (c .before .before .before .before .before .before .before .before .before .before .before .before .before .holder-of .ensures) _ (c .before .before .before .before .before .before .before .before .before .before .before .holder .given .1) _ (sym (c .before .before .before .before .before .before .before .before .is .ensures) ∙ c .before .before .before .before .before .before .before .if2 .left) (⊎-elim (λ w. gives-way (c .before .before .before .before .before .before .before .before .before .before .before .before .before .before .before .before .before .pre) _ (c .before .before .before .before .before .before .before .before .before .before .before .before .before .before .before .before .if1 .left) (c .before .before .before .before .before .before .before .before .before .before .before .before .before .before .before .wrapping-add-u64 .ensures) _ (c .before .before .before .before .before .before .before .before .before .before .before .before .before .holder-of .ensures) _ (c .before .before .before .before .before .before .before .before .before .before .before .holder .given .1) _ (sym (c .before .before .before .before .before .before .before .before .is .ensures) ∙ c .before .before .before .before .before .before .before .if2 .left) (sym (w .1 .ensures) ∙ not-false _ (w .2 .left))) (λ e. used-up (c .before .before .before .before .before .before .before .before .before .before .before .before .before .before .before .before .before .pre) _ (c .before .before .before .before .before .before .before .before .before .before .before .before .before .before .before .before .if1 .left) (c .before .before .before .before .before .before .before .before .before .before .before .before .before .before .before .wrapping-add-u64 .ensures) _ (c .before .before .before .before .before .before .before .before .before .before .before .before .before .holder-of .ensures) _ (c .before .before .before .before .before .before .before .before .before .before .before .holder .given .1) _ (sym (c .before .before .before .before .before .before .before .before .is .ensures) ∙ c .before .before .before .before .before .before .before .if2 .left) (e .left)) (c .before .before .before .before .if3 .came)) (sym (c .before .before .before .is2 .ensures) ∙ c .before .before .if5 .taken) (c .before .with-consumed2 .ensures) (c .schedule-on-cpu3 .ensures)
+returns-5 c =
+    let at-if2 = c .before .before .before .before .before .before .before in
+    let at-if1 = at-if2 .before .before .before .before .before .before .before .before in
+    tick-waits (search needs) _ (at-if1 .if1 .left) (at-if1 .before .wrapping-add-u64 .ensures) _
+    (at-if2 .before .before .before .before .before .before .holder-of .ensures) _ (at-if2 .before .before .before .before .slot .given .1) _
+    (sym (at-if2 .before .is .ensures) ∙ at-if2 .if2 .left)
+    (⊎-map (λ w. sym (w .1 .ensures) ∙ not-false _ (w .2 .left)) (λ e. e .left) (c .before .before .before .before .if3 .came))
+    (sym (c .before .before .before .is2 .ensures) ∙ c .before .before .if5 .taken) (c .before .with-consumed2 .ensures)
+    (c .schedule-on-cpu3 .ensures)
 
 push-requires : tie.Need-push-requires
-push-requires c κs = ring-below _ (c .before .before .before .before .before .before .before .before .before .before .before .before .before .before .before .before .before .pre .whole) _ _ (search needs)
+push-requires c κs =
+    let at-pre = c .before .before .before .before .before .before .before .before .before .before .before .before .before .before .before .before .before in
+    ring-below _ (at-pre .pre .whole) _ _ (search needs)
 
 mul-t26 : tie.Need-mul-t26
-mul-t26 c = omega (arith, holder-low (c .before .before .before .before .before .before .before .before .before .before .before .before .before .before .before .before .before .before .before .before .before .pre) _ (c .before .before .before .before .before .before .before .before .before .before .before .before .before .before .before .before .before .before .before .before .if1 .left) (c .before .before .before .before .before .before .before .before .before .before .before .before .before .before .before .before .before .before .before .wrapping-add-u64 .ensures) _ (c .before .before .before .before .before .before .before .before .before .before .before .before .before .before .before .before .before .holder-of .ensures) _ (c .before .before .before .before .before .before .before .before .before .before .before .before .before .before .before .holder .given .1))
+mul-t26 c =
+    let at-slot = c .before .before .before .before .before .before .before .before .before .before .before .before .before .before .before in
+    omega
+    (arith, holder-below (at-slot .before .before .before .before .before .before .pre) (at-slot .before .before .before .before .if1 .left) _ (at-slot .before .before .holder-of .ensures) (at-slot .slot .given .1))
 
 element-set-from-self-3 : tie.Need-element-set-from-self-3
-element-set-from-self-3 c = holder-low (c .before .before .before .before .before .before .before .before .before .before .before .before .before .before .before .before .before .before .before .before .before .pre) _ (c .before .before .before .before .before .before .before .before .before .before .before .before .before .before .before .before .before .before .before .before .if1 .left) (c .before .before .before .before .before .before .before .before .before .before .before .before .before .before .before .before .before .before .before .wrapping-add-u64 .ensures) _ (c .before .before .before .before .before .before .before .before .before .before .before .before .before .before .before .before .before .holder-of .ensures) _ (c .before .before .before .before .before .before .before .before .before .before .before .before .before .before .before .holder .given .1)
+element-set-from-self-3 c =
+    let at-slot = c .before .before .before .before .before .before .before .before .before .before .before .before .before .before .before in
+    holder-below (at-slot .before .before .before .before .before .before .pre) (at-slot .before .before .before .before .if1 .left) _
+    (at-slot .before .before .holder-of .ensures) (at-slot .slot .given .1)
 
 schedule-on-cpu-requires-4 : tie.Need-schedule-on-cpu-requires-4
-schedule-on-cpu-requires-4 c κs = sent-back-valid (c .before .before .before .before .before .before .before .before .before .before .before .before .before .before .before .before .before .before .before .before .before .pre) _ (c .before .before .before .before .before .before .before .before .before .before .before .before .before .before .before .before .before .before .before .before .if1 .left) (c .before .before .before .before .before .before .before .before .before .before .before .before .before .before .before .before .before .before .before .wrapping-add-u64 .ensures) _ (c .before .before .before .before .before .before .before .before .before .before .before .before .before .before .before .before .before .holder-of .ensures) _ (c .before .before .before .before .before .before .before .before .before .before .before .before .before .before .before .holder .given .1) _ (sym (c .before .before .before .before .before .before .before .before .before .before .before .before .is .ensures) ∙ c .before .before .before .before .before .before .before .before .before .before .before .if2 .left) (⊎-elim (λ w. gives-way (c .before .before .before .before .before .before .before .before .before .before .before .before .before .before .before .before .before .before .before .before .before .pre) _ (c .before .before .before .before .before .before .before .before .before .before .before .before .before .before .before .before .before .before .before .before .if1 .left) (c .before .before .before .before .before .before .before .before .before .before .before .before .before .before .before .before .before .before .before .wrapping-add-u64 .ensures) _ (c .before .before .before .before .before .before .before .before .before .before .before .before .before .before .before .before .before .holder-of .ensures) _ (c .before .before .before .before .before .before .before .before .before .before .before .before .before .before .before .holder .given .1) _ (sym (c .before .before .before .before .before .before .before .before .before .before .before .before .is .ensures) ∙ c .before .before .before .before .before .before .before .before .before .before .before .if2 .left) (sym (w .1 .ensures) ∙ not-false _ (w .2 .left))) (λ e. used-up (c .before .before .before .before .before .before .before .before .before .before .before .before .before .before .before .before .before .before .before .before .before .pre) _ (c .before .before .before .before .before .before .before .before .before .before .before .before .before .before .before .before .before .before .before .before .if1 .left) (c .before .before .before .before .before .before .before .before .before .before .before .before .before .before .before .before .before .before .before .wrapping-add-u64 .ensures) _ (c .before .before .before .before .before .before .before .before .before .before .before .before .before .before .before .before .before .holder-of .ensures) _ (c .before .before .before .before .before .before .before .before .before .before .before .before .before .before .before .holder .given .1) _ (sym (c .before .before .before .before .before .before .before .before .before .before .before .before .is .ensures) ∙ c .before .before .before .before .before .before .before .before .before .before .before .if2 .left) (e .left)) (c .before .before .before .before .before .before .before .before .if3 .came)) (sym (c .before .before .before .before .before .before .before .is2 .ensures) ∙ c .before .before .before .before .before .before .if5 .left) (c .before .before .before .before .before .code .ensures) _ (c .before .before .before .push .ensures) (c .with-state .ensures ∙ ap (λ (t : TaskControlBlock). withState t Ready) (c .before .with-consumed3 .ensures))
+schedule-on-cpu-requires-4 c κs =
+    let at-is2 = c .before .before .before .before .before .before .before in
+    let at-slot = at-is2 .before .before .before .before .before .before .before .before in
+    sent-back-valid (at-slot .before .before .before .before .before .before .pre) _ (at-slot .before .before .before .before .if1 .left)
+    (at-slot .before .before .before .before .before .wrapping-add-u64 .ensures) _ (at-slot .before .before .holder-of .ensures) _
+    (at-slot .slot .given .1) _
+    (sym (at-is2 .before .before .before .before .before .is .ensures) ∙ at-is2 .before .before .before .before .if2 .left)
+    (⊎-map (λ w. sym (w .1 .ensures) ∙ not-false _ (w .2 .left)) (λ e. e .left) (at-is2 .before .if3 .came))
+    (sym (at-is2 .is2 .ensures) ∙ c .before .before .before .before .before .before .if5 .left)
+    (c .before .before .before .before .before .code .ensures) _ (c .before .before .before .push .ensures)
+    (c .with-state .ensures ∙ ap (λ (t : TaskControlBlock). withState t Ready) (c .before .with-consumed3 .ensures))
 
 returns-6 : tie.Need-returns-6
-returns-6 c = tick-over (c .before .before .before .before .before .before .before .before .before .before .before .before .before .before .before .before .before .before .before .before .before .before .pre) _ (c .before .before .before .before .before .before .before .before .before .before .before .before .before .before .before .before .before .before .before .before .before .if1 .left) (c .before .before .before .before .before .before .before .before .before .before .before .before .before .before .before .before .before .before .before .before .wrapping-add-u64 .ensures) _ (c .before .before .before .before .before .before .before .before .before .before .before .before .before .before .before .before .before .before .holder-of .ensures) _ (c .before .before .before .before .before .before .before .before .before .before .before .before .before .before .before .before .holder .given .1) _ (sym (c .before .before .before .before .before .before .before .before .before .before .before .before .before .is .ensures) ∙ c .before .before .before .before .before .before .before .before .before .before .before .before .if2 .left) (⊎-elim (λ w. gives-way (c .before .before .before .before .before .before .before .before .before .before .before .before .before .before .before .before .before .before .before .before .before .before .pre) _ (c .before .before .before .before .before .before .before .before .before .before .before .before .before .before .before .before .before .before .before .before .before .if1 .left) (c .before .before .before .before .before .before .before .before .before .before .before .before .before .before .before .before .before .before .before .before .wrapping-add-u64 .ensures) _ (c .before .before .before .before .before .before .before .before .before .before .before .before .before .before .before .before .before .before .holder-of .ensures) _ (c .before .before .before .before .before .before .before .before .before .before .before .before .before .before .before .before .holder .given .1) _ (sym (c .before .before .before .before .before .before .before .before .before .before .before .before .before .is .ensures) ∙ c .before .before .before .before .before .before .before .before .before .before .before .before .if2 .left) (sym (w .1 .ensures) ∙ not-false _ (w .2 .left))) (λ e. used-up (c .before .before .before .before .before .before .before .before .before .before .before .before .before .before .before .before .before .before .before .before .before .before .pre) _ (c .before .before .before .before .before .before .before .before .before .before .before .before .before .before .before .before .before .before .before .before .before .if1 .left) (c .before .before .before .before .before .before .before .before .before .before .before .before .before .before .before .before .before .before .before .before .wrapping-add-u64 .ensures) _ (c .before .before .before .before .before .before .before .before .before .before .before .before .before .before .before .before .before .before .holder-of .ensures) _ (c .before .before .before .before .before .before .before .before .before .before .before .before .before .before .before .before .holder .given .1) _ (sym (c .before .before .before .before .before .before .before .before .before .before .before .before .before .is .ensures) ∙ c .before .before .before .before .before .before .before .before .before .before .before .before .if2 .left) (e .left)) (c .before .before .before .before .before .before .before .before .before .if3 .came)) (sym (c .before .before .before .before .before .before .before .before .is2 .ensures) ∙ c .before .before .before .before .before .before .before .if5 .left) (c .before .before .before .before .before .before .code .ensures) _ (c .before .before .before .before .push .ensures) (c .before .with-state .ensures ∙ ap (λ (t : TaskControlBlock). withState t Ready) (c .before .before .with-consumed3 .ensures)) (c .schedule-on-cpu4 .ensures)
+returns-6 c =
+    let at-if5 = c .before .before .before .before .before .before .before in
+    let at-slot = at-if5 .before .before .before .before .before .before .before .before .before in
+    tick-over (search needs) _ (at-slot .before .before .before .before .if1 .left)
+    (at-slot .before .before .before .before .before .wrapping-add-u64 .ensures) _ (at-slot .before .before .holder-of .ensures) _
+    (at-slot .slot .given .1) _
+    (sym (at-if5 .before .before .before .before .before .before .is .ensures) ∙ at-if5 .before .before .before .before .before .if2 .left)
+    (⊎-map (λ w. sym (w .1 .ensures) ∙ not-false _ (w .2 .left)) (λ e. e .left) (at-if5 .before .before .if3 .came))
+    (sym (at-if5 .before .is2 .ensures) ∙ at-if5 .if5 .left) (c .before .before .before .before .before .before .code .ensures) _
+    (c .before .before .before .before .push .ensures)
+    (c .before .with-state .ensures ∙ ap (λ (t : TaskControlBlock). withState t Ready) (c .before .before .with-consumed3 .ensures))
+    (c .schedule-on-cpu4 .ensures)
 
 pub on-timer-tick-on-cpu-spec : {M : Type 1} → statement M
 on-timer-tick-on-cpu-spec =
     tie.close
     (tie.spec
     (λ c κs. search needs)
-    returns
     (λ c κs. search needs)
+    returns
     (λ c. search needs)
     (λ c κs. search needs)
     (λ c. search needs)
@@ -104,7 +186,7 @@ on-timer-tick-on-cpu-spec =
     returns-4
     (λ c κs. search needs)
     (λ c κs. search needs)
-    mul-t50
+    mul-t51
     element-set-from-self-2
     schedule-on-cpu-requires-3
     returns-5

@@ -1,46 +1,76 @@
+-- `QoSScheduler::plan_voluntary_yield_on_cpu` meets its contract: each way out cites its law. Assumes nothing.
 use mathlib.Core.Path.{sym, _∙_}
 use native.Mathlib.Omega.{arith}
-use borrow.Author.Tests.{not-true, not-false}
-use Rattle.scheduler.proofs.OnPlans.{yield-past, yield-none, holder-low, yield-idle, sent-back-valid, yield-running}
-use Rattle.scheduler.proofs.Stored.{ring-below}
 use borrow.Author.Needs.{needs}
-use Rattle.scheduler.proofs.scheduler.QoSScheduler.plan_voluntary_yield_on_cpu.Statement.{
-  statement,
-}
+use borrow.Author.Tests.{not-true, not-false}
+use Rattle.scheduler.proofs.Holders.{holder-below}
+use Rattle.scheduler.proofs.OnPlans.{yield-past, yield-none, yield-idle, sent-back-valid, yield-running}
+use Rattle.scheduler.proofs.Stored.{ring-below}
+use Rattle.scheduler.proofs.scheduler.QoSScheduler.plan_voluntary_yield_on_cpu.Statement.{statement}
 use Rattle.scheduler.proofs.scheduler.QoSScheduler.plan_voluntary_yield_on_cpu.Tie as tie
 
 returns : tie.Need-returns
-returns c = yield-past (c .before .before .pre) (c .before .if1 .taken) (c .refused .ensures)
+returns c = yield-past (search needs) (c .before .if1 .taken) (c .refused .ensures)
 
 returns-2 : tie.Need-returns-2
-returns-2 c = yield-none (c .before .before .before .before .before .before .before .pre) (c .before .before .before .before .before .before .if1 .left) _ (c .before .before .before .before .holder-of .ensures) (c .before .before .enum-told .given .1) (c .before .schedule-on-cpu .ensures) (c .plan-from .ensures)
+returns-2 c =
+    yield-none (search needs) (search needs) _ (c .before .before .before .before .holder-of .ensures) (c .before .before .enum-told .given .1)
+    (c .before .schedule-on-cpu .ensures) (c .plan-from .ensures)
 
 mul-task : tie.Need-mul-task
-mul-task c = omega (arith, holder-low (c .before .before .before .before .before .before .pre) (c .before .before .before .before .before .if1 .left) _ (c .before .before .before .holder-of .ensures) _ (c .before .previous .given .1))
+mul-task c =
+    omega
+    (arith, holder-below (c .before .before .before .before .before .before .pre) (c .before .before .before .before .before .if1 .left) _ (c .before .before .before .holder-of .ensures) (c .before .previous .given .1))
 
 element-copy-out-task : tie.Need-element-copy-out-task
-element-copy-out-task c = holder-low (c .before .before .before .before .before .before .pre) (c .before .before .before .before .before .if1 .left) _ (c .before .before .before .holder-of .ensures) _ (c .before .previous .given .1)
+element-copy-out-task c =
+    holder-below (c .before .before .before .before .before .before .pre) (c .before .before .before .before .before .if1 .left) _
+    (c .before .before .before .holder-of .ensures) (c .before .previous .given .1)
 
 returns-3 : tie.Need-returns-3
-returns-3 c = yield-idle (c .before .before .before .before .before .before .before .before .before .before .pre) (c .before .before .before .before .before .before .before .before .before .if1 .left) _ (c .before .before .before .before .before .before .before .holder-of .ensures) _ (c .before .before .before .before .before .previous .given .1) _ (sym (c .before .before .is .ensures) ∙ not-true _ (c .before .if2 .taken)) (c .refused2 .ensures)
+returns-3 c =
+    let at-holder-of = c .before .before .before .before .before .before .before in
+    yield-idle (search needs) (search needs) _ (at-holder-of .holder-of .ensures) _ (c .before .before .before .before .before .previous .given .1) _
+    (sym (c .before .before .is .ensures) ∙ not-true _ (c .before .if2 .taken)) (c .refused2 .ensures)
 
 push-requires : tie.Need-push-requires
-push-requires c κs = ring-below _ (c .before .before .before .before .before .before .before .before .before .before .before .pre .whole) _ _ (search needs)
+push-requires c κs =
+    let at-pre = c .before .before .before .before .before .before .before .before .before .before .before in
+    ring-below _ (at-pre .pre .whole) _ _ (search needs)
 
 mul-t21 : tie.Need-mul-t21
-mul-t21 c = omega (arith, holder-low (c .before .before .before .before .before .before .before .before .before .before .before .before .before .before .pre) (c .before .before .before .before .before .before .before .before .before .before .before .before .before .if1 .left) _ (c .before .before .before .before .before .before .before .before .before .before .before .holder-of .ensures) _ (c .before .before .before .before .before .before .before .before .before .previous .given .1))
+mul-t21 c =
+    let at-previous = c .before .before .before .before .before .before .before .before .before in
+    omega
+    (arith, holder-below (at-previous .before .before .before .before .before .pre) (at-previous .before .before .before .before .if1 .left) _ (at-previous .before .before .holder-of .ensures) (at-previous .previous .given .1))
 
 element-set-from-self : tie.Need-element-set-from-self
-element-set-from-self c = holder-low (c .before .before .before .before .before .before .before .before .before .before .before .before .before .before .pre) (c .before .before .before .before .before .before .before .before .before .before .before .before .before .if1 .left) _ (c .before .before .before .before .before .before .before .before .before .before .before .holder-of .ensures) _ (c .before .before .before .before .before .before .before .before .before .previous .given .1)
+element-set-from-self c =
+    let at-previous = c .before .before .before .before .before .before .before .before .before in
+    holder-below (at-previous .before .before .before .before .before .pre) (at-previous .before .before .before .before .if1 .left) _
+    (at-previous .before .before .holder-of .ensures) (at-previous .previous .given .1)
 
 schedule-on-cpu-requires-2 : tie.Need-schedule-on-cpu-requires-2
-schedule-on-cpu-requires-2 c κs = sent-back-valid (c .before .before .before .before .before .before .before .before .before .before .before .before .before .before .pre) (c .before .before .before .before .before .before .before .before .before .before .before .before .before .if1 .left) _ (c .before .before .before .before .before .before .before .before .before .before .before .holder-of .ensures) _ (c .before .before .before .before .before .before .before .before .before .previous .given .1) _ (sym (c .before .before .before .before .before .before .is .ensures) ∙ not-false _ (c .before .before .before .before .before .if2 .left)) (c .before .before .before .before .code .ensures) _ (c .before .before .push .ensures) (c .with-state .ensures)
+schedule-on-cpu-requires-2 c κs =
+    let at-previous = c .before .before .before .before .before .before .before .before .before in
+    sent-back-valid (at-previous .before .before .before .before .before .pre) (at-previous .before .before .before .before .if1 .left) _
+    (at-previous .before .before .holder-of .ensures) _ (at-previous .previous .given .1) _
+    (sym (c .before .before .before .before .before .before .is .ensures) ∙ not-false _ (c .before .before .before .before .before .if2 .left))
+    (c .before .before .before .before .code .ensures) _ (c .before .before .push .ensures) (c .with-state .ensures)
 
 plan-from-requires-2 : tie.Need-plan-from-requires-2
-plan-from-requires-2 c κs = (c .schedule-on-cpu2 .ensures .valid, c .before .before .before .before .before .before .before .before .before .before .before .before .before .before .if1 .left)
+plan-from-requires-2 c κs =
+    let at-if1 = c .before .before .before .before .before .before .before .before .before .before .before .before .before .before in
+    (c .schedule-on-cpu2 .ensures .valid, at-if1 .if1 .left)
 
 returns-4 : tie.Need-returns-4
-returns-4 c = yield-running (c .before .before .before .before .before .before .before .before .before .before .before .before .before .before .before .before .pre) (c .before .before .before .before .before .before .before .before .before .before .before .before .before .before .before .if1 .left) _ (c .before .before .before .before .before .before .before .before .before .before .before .before .before .holder-of .ensures) _ (c .before .before .before .before .before .before .before .before .before .before .before .previous .given .1) _ (sym (c .before .before .before .before .before .before .before .before .is .ensures) ∙ not-false _ (c .before .before .before .before .before .before .before .if2 .left)) (c .before .before .before .before .before .before .code .ensures) _ (c .before .before .before .before .push .ensures) (c .before .before .with-state .ensures) (c .before .schedule-on-cpu2 .ensures) (c .plan-from2 .ensures)
+returns-4 c =
+    let at-if2 = c .before .before .before .before .before .before .before in
+    let at-if1 = at-if2 .before .before .before .before .before .before .before .before in
+    yield-running (at-if1 .before .pre) (at-if1 .if1 .left) _ (at-if2 .before .before .before .before .before .before .holder-of .ensures) _
+    (at-if2 .before .before .before .before .previous .given .1) _ (sym (at-if2 .before .is .ensures) ∙ not-false _ (at-if2 .if2 .left))
+    (c .before .before .before .before .before .before .code .ensures) _ (c .before .before .before .before .push .ensures)
+    (c .before .before .with-state .ensures) (c .before .schedule-on-cpu2 .ensures) (c .plan-from2 .ensures)
 
 pub plan-voluntary-yield-on-cpu-spec : {M : Type 1} → statement M
 plan-voluntary-yield-on-cpu-spec =

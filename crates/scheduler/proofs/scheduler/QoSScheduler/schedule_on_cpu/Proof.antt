@@ -1,3 +1,4 @@
+-- `QoSScheduler::schedule_on_cpu` meets its contract: the loop seeks as `Seeking` says, and the scheduler is not changed before it ends. Assumes nothing.
 use mathlib.Core.Path.{_≡_, refl}
 use Prim.Native.Nat.{_+_, _-_, _*_}
 use native.Mathlib.Omega.{arith}
@@ -26,40 +27,70 @@ entry-at-requires : tie.Need-entry-at-requires Inv-loop μ-loop
 entry-at-requires c κs = ring-below _ ((c .before .before .loop .inv .1 .0) .whole) _ _ (search needs)
 
 loop-again : tie.Need-loop-again Inv-loop μ-loop
-loop-again c = (c .before .before .before .before .before .loop .inv .0, ((c .before .before .before .before .before .loop .inv .1 .0), on-to-band (c .before .before .before .before .before .loop .inv .1 .0) (c .before .before .before .before .before .loop .inv .1 .1) (c .before .before .before .before .loop-test .taken) _ (c .before .before .entry-at .ensures) (c .enum-told .given .1)))
+loop-again c =
+    (c .before .before .before .before .before .loop .inv .0, ((c .before .before .before .before .before .loop .inv .1 .0), on-to-band (c .before .before .before .before .before .loop .inv .1 .0) (c .before .before .before .before .before .loop .inv .1 .1) (c .before .before .before .before .loop-test .taken) _ (c .before .before .entry-at .ensures) (c .enum-told .given .1)))
 
 mul-task : tie.Need-mul-task Inv-loop μ-loop
-mul-task c = omega (arith, entry-low (c .before .before .before .before .before .before .loop .inv .1 .0) (c .before .before .before .before .before .before .loop .inv .1 .1) (c .before .before .before .before .before .loop-test .taken) _ (c .before .before .before .entry-at .ensures) _ (c .before .entry .given .1))
+mul-task c =
+    omega
+    (arith, entry-low (c .before .before .before .before .before .before .loop .inv .1 .0) (c .before .before .before .before .before .before .loop .inv .1 .1) (c .before .before .before .before .before .loop-test .taken) _ (c .before .before .before .entry-at .ensures) _ (c .before .entry .given .1))
 
 element-copy-out-task : tie.Need-element-copy-out-task Inv-loop μ-loop
-element-copy-out-task c = entry-low (c .before .before .before .before .before .before .loop .inv .1 .0) (c .before .before .before .before .before .before .loop .inv .1 .1) (c .before .before .before .before .before .loop-test .taken) _ (c .before .before .before .entry-at .ensures) _ (c .before .entry .given .1)
+element-copy-out-task c =
+    entry-low (c .before .before .before .before .before .before .loop .inv .1 .0)
+    (c .before .before .before .before .before .before .loop .inv .1 .1) (c .before .before .before .before .before .loop-test .taken) _
+    (c .before .before .before .entry-at .ensures) _ (c .before .entry .given .1)
 
 take-at-requires : tie.Need-take-at-requires Inv-loop μ-loop
-take-at-requires c κs = ring-below _ ((c .before .before .before .before .before .before .before .before .before .loop .inv .1 .0) .whole) _ _ (search needs)
+take-at-requires c κs =
+    let at-loop = c .before .before .before .before .before .before .before .before .before in
+    ring-below _ ((at-loop .loop .inv .1 .0) .whole) _ _ (search needs)
 
 mul-t28 : tie.Need-mul-t28 Inv-loop μ-loop
-mul-t28 c = omega (arith, entry-low (c .before .before .before .before .before .before .before .before .before .before .before .before .loop .inv .1 .0) (c .before .before .before .before .before .before .before .before .before .before .before .before .loop .inv .1 .1) (c .before .before .before .before .before .before .before .before .before .before .before .loop-test .taken) _ (c .before .before .before .before .before .before .before .before .before .entry-at .ensures) _ (c .before .before .before .before .before .before .before .entry .given .1))
+mul-t28 c =
+    let at-entry = c .before .before .before .before .before .before .before in
+    omega
+    (arith, entry-low (at-entry .before .before .before .before .before .loop .inv .1 .0) (at-entry .before .before .before .before .before .loop .inv .1 .1) (at-entry .before .before .before .before .loop-test .taken) _ (at-entry .before .before .entry-at .ensures) _ (at-entry .entry .given .1))
 
 element-set-from-self : tie.Need-element-set-from-self Inv-loop μ-loop
-element-set-from-self c = entry-low (c .before .before .before .before .before .before .before .before .before .before .before .before .loop .inv .1 .0) (c .before .before .before .before .before .before .before .before .before .before .before .before .loop .inv .1 .1) (c .before .before .before .before .before .before .before .before .before .before .before .loop-test .taken) _ (c .before .before .before .before .before .before .before .before .before .entry-at .ensures) _ (c .before .before .before .before .before .before .before .entry .given .1)
+element-set-from-self c =
+    let at-entry = c .before .before .before .before .before .before .before in
+    entry-low (at-entry .before .before .before .before .before .loop .inv .1 .0) (at-entry .before .before .before .before .before .loop .inv .1 .1)
+    (at-entry .before .before .before .before .loop-test .taken) _ (at-entry .before .before .entry-at .ensures) _ (at-entry .entry .given .1)
 
 cast-self : tie.Need-cast-self Inv-loop μ-loop
-cast-self c = omega (arith, entry-low (c .before .before .before .before .before .before .before .before .before .before .before .before .loop .inv .1 .0) (c .before .before .before .before .before .before .before .before .before .before .before .before .loop .inv .1 .1) (c .before .before .before .before .before .before .before .before .before .before .before .loop-test .taken) _ (c .before .before .before .before .before .before .before .before .before .entry-at .ensures) _ (c .before .before .before .before .before .before .before .entry .given .1))
+cast-self c =
+    let at-entry = c .before .before .before .before .before .before .before in
+    omega
+    (arith, entry-low (at-entry .before .before .before .before .before .loop .inv .1 .0) (at-entry .before .before .before .before .before .loop .inv .1 .1) (at-entry .before .before .before .before .loop-test .taken) _ (at-entry .before .before .entry-at .ensures) _ (at-entry .entry .given .1))
 
 returns-2 : tie.Need-returns-2 Inv-loop μ-loop
-returns-2 c = meets-from (c .before .before .before .before .before .before .before .before .before .before .before .before .before .loop .inv .0) (schedule-picked (c .before .before .before .before .before .before .before .before .before .before .before .before .before .loop .inv .1 .0) (c .before .before .before .before .before .before .before .before .before .before .before .before .before .loop .inv .1 .1) (c .before .before .before .before .before .before .before .before .before .before .before .before .loop-test .taken) _ (c .before .before .before .before .before .before .before .before .before .before .entry-at .ensures) _ (c .before .before .before .before .before .before .before .before .entry .given .1) _ (c .before .before .before .before .before .mask-permits .ensures) (c .before .before .before .before .before .before .before .before .before .before .before .before .before .before .if1 .left) (c .before .before .before .before .if2 .taken) (c .before .before .before .take-at .ensures) (c .before .picked .ensures) (c .done .ensures))
+returns-2 c =
+    let at-entry = c .before .before .before .before .before .before .before .before in
+    meets-from (at-entry .before .before .before .before .before .loop .inv .0)
+    (schedule-picked (at-entry .before .before .before .before .before .loop .inv .1 .0) (at-entry .before .before .before .before .before .loop .inv .1 .1) (at-entry .before .before .before .before .loop-test .taken) _ (at-entry .before .before .entry-at .ensures) _ (at-entry .entry .given .1) _ (c .before .before .before .before .before .mask-permits .ensures) (at-entry .before .before .before .before .before .before .if1 .left) (c .before .before .before .before .if2 .taken) (c .before .before .before .take-at .ensures) (c .before .picked .ensures) (c .chosen .ensures))
 
 add-place : tie.Need-add-place Inv-loop μ-loop
-add-place c = omega (arith, place-low (c .before .before .before .before .before .before .before .before .before .loop .inv .1 .0) (c .before .before .before .before .before .before .before .before .before .loop .inv .1 .1) (c .before .before .before .before .before .before .before .before .loop-test .taken) _ (c .before .before .before .before .before .before .entry-at .ensures) _ (c .before .before .before .before .entry .given .1))
+add-place c =
+    let at-loop-test = c .before .before .before .before .before .before .before .before in
+    omega
+    (arith, place-low (at-loop-test .before .loop .inv .1 .0) (at-loop-test .before .loop .inv .1 .1) (at-loop-test .loop-test .taken) _ (c .before .before .before .before .before .before .entry-at .ensures) _ (c .before .before .before .before .entry .given .1))
 
 loop-less-2 : tie.Need-loop-less-2 Inv-loop μ-loop
-loop-less-2 c = omega (arith, place-low (c .before .before .before .before .before .before .before .before .before .loop .inv .1 .0) (c .before .before .before .before .before .before .before .before .before .loop .inv .1 .1) (c .before .before .before .before .before .before .before .before .loop-test .taken) _ (c .before .before .before .before .before .before .entry-at .ensures) _ (c .before .before .before .before .entry .given .1))
+loop-less-2 c =
+    let at-loop-test = c .before .before .before .before .before .before .before .before in
+    omega
+    (arith, place-low (at-loop-test .before .loop .inv .1 .0) (at-loop-test .before .loop .inv .1 .1) (at-loop-test .loop-test .taken) _ (c .before .before .before .before .before .before .entry-at .ensures) _ (c .before .before .before .before .entry .given .1))
 
 loop-again-2 : tie.Need-loop-again-2 Inv-loop μ-loop
-loop-again-2 c = (c .before .before .before .before .before .before .before .before .before .loop .inv .0, ((c .before .before .before .before .before .before .before .before .before .loop .inv .1 .0), on-to-place (c .before .before .before .before .before .before .before .before .before .loop .inv .1 .0) (c .before .before .before .before .before .before .before .before .before .loop .inv .1 .1) (c .before .before .before .before .before .before .before .before .loop-test .taken) _ (c .before .before .before .before .before .before .entry-at .ensures) _ (c .before .before .before .before .entry .given .1) _ (c .before .mask-permits .ensures) (c .if2 .left)))
+loop-again-2 c =
+    let at-loop-test = c .before .before .before .before .before .before .before .before in
+    (at-loop-test .before .loop .inv .0, ((at-loop-test .before .loop .inv .1 .0), on-to-place (at-loop-test .before .loop .inv .1 .0) (at-loop-test .before .loop .inv .1 .1) (at-loop-test .loop-test .taken) _ (c .before .before .before .before .before .before .entry-at .ensures) _ (c .before .before .before .before .entry .given .1) _ (c .before .mask-permits .ensures) (c .if2 .left)))
 
 returns-3 : tie.Need-returns-3 Inv-loop μ-loop
-returns-3 c = meets-from (c .before .before .loop .inv .0) (schedule-none (c .before .before .loop .inv .1 .0) (c .before .before .before .if1 .left) (c .before .before .loop .inv .1 .1) (c .before .loop-test .left) (c .told2 .ensures))
+returns-3 c =
+    meets-from (c .before .before .loop .inv .0)
+    (schedule-none (c .before .before .loop .inv .1 .0) (c .before .before .before .if1 .left) (c .before .before .loop .inv .1 .1) (c .before .loop-test .left) (c .told2 .ensures))
 
 pub schedule-on-cpu-spec : {M : Type 1} → statement M
 schedule-on-cpu-spec =

@@ -1,3 +1,4 @@
+-- `QoSScheduler::set_task_affinity` meets its contract: a slot past the table, and one in it. Assumes nothing.
 use borrow.Author.Needs.{needs}
 use Rattle.scheduler.proofs.OnSlots.{affinity-past, affinity-done}
 use Rattle.scheduler.proofs.scheduler.QoSScheduler.set_task_affinity.Statement.{statement}

@@ -1,3 +1,4 @@
+-- `QoSScheduler::waits_before` meets its contract: the loop seeks as `Seeking` says, in the bands before the holder's. Assumes nothing.
 use Prim.Native.Nat.{_+_, _-_, _*_, _<_}
 use native.Mathlib.Omega.{arith}
 use borrow.Author.Needs.{needs}
@@ -18,31 +19,53 @@ loop-holds : tie.Need-loop-holds Inv-loop μ-loop
 loop-holds c = (c .code .ensures .small, seeking-first _ _)
 
 entry-at-requires : tie.Need-entry-at-requires Inv-loop μ-loop
-entry-at-requires c κs = ring-below _ ((c .before .before .before .before .pre) .whole) _ _ (omega arith)
+entry-at-requires c κs = ring-below _ (c .before .before .before .before .pre .whole) _ _ (omega arith)
 
 loop-again : tie.Need-loop-again Inv-loop μ-loop
-loop-again c = (c .before .before .before .before .before .loop .inv .0, on-to-band (c .before .before .before .before .before .before .before .pre) (c .before .before .before .before .before .loop .inv .1) (omega arith) _ (c .before .before .entry-at .ensures) (c .enum-told .given .1))
+loop-again c =
+    let at-pre = c .before .before .before .before .before .before .before in
+    (c .before .before .before .before .before .loop .inv .0, on-to-band (at-pre .pre) (c .before .before .before .before .before .loop .inv .1) (omega arith) _ (c .before .before .entry-at .ensures) (c .enum-told .given .1))
 
 mul-task : tie.Need-mul-task Inv-loop μ-loop
-mul-task c = omega (arith, entry-low (c .before .before .before .before .before .before .before .before .pre) (c .before .before .before .before .before .before .loop .inv .1) (omega arith) _ (c .before .before .before .entry-at .ensures) _ (c .before .entry .given .1))
+mul-task c =
+    let at-pre = c .before .before .before .before .before .before .before .before in
+    omega
+    (arith, entry-low (at-pre .pre) (c .before .before .before .before .before .before .loop .inv .1) (omega arith) _ (c .before .before .before .entry-at .ensures) _ (c .before .entry .given .1))
 
 element-copy-out-task : tie.Need-element-copy-out-task Inv-loop μ-loop
-element-copy-out-task c = entry-low (c .before .before .before .before .before .before .before .before .pre) (c .before .before .before .before .before .before .loop .inv .1) (omega arith) _ (c .before .before .before .entry-at .ensures) _ (c .before .entry .given .1)
+element-copy-out-task c =
+    let at-pre = c .before .before .before .before .before .before .before .before in
+    entry-low (at-pre .pre) (c .before .before .before .before .before .before .loop .inv .1) (omega arith) _
+    (c .before .before .before .entry-at .ensures) _ (c .before .entry .given .1)
 
 returns : tie.Need-returns Inv-loop μ-loop
-returns c = test-found (c .before .before .before .before .before .before .before .before .before .before .before .pre) (c .before .before .before .before .before .before .before .before .before .loop .inv .1) (omega arith) _ (c .before .before .before .before .before .before .entry-at .ensures) _ (c .before .before .before .before .entry .given .1) _ (c .before .mask-permits .ensures) (c .before .before .before .before .before .before .before .before .before .before .before .args .qos) (omega (arith, c .before .before .before .before .before .before .before .before .before .before .code .ensures .is)) (c .if1 .taken)
+returns c =
+    let at-loop = c .before .before .before .before .before .before .before .before .before in
+    test-found (at-loop .before .before .pre) (at-loop .loop .inv .1) (omega arith) _
+    (c .before .before .before .before .before .before .entry-at .ensures) _ (c .before .before .before .before .entry .given .1) _
+    (c .before .mask-permits .ensures) (at-loop .before .before .args .qos) (omega (arith, at-loop .before .code .ensures .is)) (c .if1 .taken)
 
 add-place : tie.Need-add-place Inv-loop μ-loop
-add-place c = omega (arith, place-low (c .before .before .before .before .before .before .before .before .before .before .before .pre) (c .before .before .before .before .before .before .before .before .before .loop .inv .1) (omega arith) _ (c .before .before .before .before .before .before .entry-at .ensures) _ (c .before .before .before .before .entry .given .1))
+add-place c =
+    let at-loop = c .before .before .before .before .before .before .before .before .before in
+    omega
+    (arith, place-low (at-loop .before .before .pre) (at-loop .loop .inv .1) (omega arith) _ (c .before .before .before .before .before .before .entry-at .ensures) _ (c .before .before .before .before .entry .given .1))
 
 loop-less-2 : tie.Need-loop-less-2 Inv-loop μ-loop
-loop-less-2 c = omega (arith, place-low (c .before .before .before .before .before .before .before .before .before .before .before .pre) (c .before .before .before .before .before .before .before .before .before .loop .inv .1) (omega arith) _ (c .before .before .before .before .before .before .entry-at .ensures) _ (c .before .before .before .before .entry .given .1))
+loop-less-2 c =
+    let at-loop = c .before .before .before .before .before .before .before .before .before in
+    omega
+    (arith, place-low (at-loop .before .before .pre) (at-loop .loop .inv .1) (omega arith) _ (c .before .before .before .before .before .before .entry-at .ensures) _ (c .before .before .before .before .entry .given .1))
 
 loop-again-2 : tie.Need-loop-again-2 Inv-loop μ-loop
-loop-again-2 c = (c .before .before .before .before .before .before .before .before .before .loop .inv .0, on-to-place (c .before .before .before .before .before .before .before .before .before .before .before .pre) (c .before .before .before .before .before .before .before .before .before .loop .inv .1) (omega arith) _ (c .before .before .before .before .before .before .entry-at .ensures) _ (c .before .before .before .before .entry .given .1) _ (c .before .mask-permits .ensures) (c .if1 .left))
+loop-again-2 c =
+    let at-loop = c .before .before .before .before .before .before .before .before .before in
+    (at-loop .loop .inv .0, on-to-place (at-loop .before .before .pre) (at-loop .loop .inv .1) (omega arith) _ (c .before .before .before .before .before .before .entry-at .ensures) _ (c .before .before .before .before .entry .given .1) _ (c .before .mask-permits .ensures) (c .if1 .left))
 
 returns-2 : tie.Need-returns-2 Inv-loop μ-loop
-returns-2 c = test-none (c .before .before .before .pre) (c .before .loop .inv .1) (c .before .before .before .args .qos) (c .before .before .code .ensures .is) (c .loop-test .left)
+returns-2 c =
+    test-none (c .before .before .before .pre) (c .before .loop .inv .1) (c .before .before .before .args .qos)
+    (c .before .before .code .ensures .is) (c .loop-test .left)
 
 pub waits-before-spec : {M : Type 1} → statement M
 waits-before-spec =
