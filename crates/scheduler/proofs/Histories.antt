@@ -2,6 +2,7 @@
 -- the rules. Every accepted state is held by some valid scheduler, so there is a new one, and every list of calls has a history. Assumes nothing.
 use mathlib.Core.Path.{_≡_, refl, sym, ap, _∙_, subst}
 use mathlib.Core.List.{List, [], _∷_, _++_}
+use Prim.Native.Nat.{ℕ}
 use Rattle.records.specs.declared.band.QoSClass.{QoSClass}
 use Rattle.records.specs.declared.band.QoSClass.the-variants.{UserInteractive, RealTimeIO, Background}
 use Rattle.queue.specs.declared.BandQueue.{BandQueue}
@@ -14,11 +15,13 @@ use Rattle.scheduler.specs.State.{State, newState, queue}
 use Rattle.scheduler.specs.Accepted.{Accepted}
 use Rattle.scheduler.specs.Step.{step, run}
 use Rattle.scheduler.specs.Took.{Carries}
-use Rattle.scheduler.specs.Stretch.{events}
+use Rattle.scheduler.specs.Stretch.{events, breaks, picks}
 use Rattle.scheduler.specs.Demand3.{Each, Point}
+use Rattle.scheduler.specs.Longest.{Longest}
 use Rattle.scheduler.specs.Scheduler.{queuesOf, abs, Valid, IsNew, Meets}
-use Rattle.scheduler.specs.History.{Made, History, left, callsOf, happened, outcomeOf, CodePoint, CodeClaim}
+use Rattle.scheduler.specs.History.{Made, History, left, callsOf, happened, stretchIn, outcomeOf, CodePoint, CodeClaim}
 use Rattle.scheduler.proofs.Calls.{new-accepted, call-accepted}
+use Rattle.scheduler.proofs.Stretches.{longest}
 use Rattle.scheduler.proofs.Waiting.{demand3}
 
 -- ---- what a history leaves, and where it is cut
@@ -93,14 +96,18 @@ code-point s v past next before after =
       waiting = λ x ready. rw (happened-is here next after) (rules .waiting x ready);
     }
 
-pub code-demand3 : (s : QoSScheduler) → Valid s → (made : List Made) → History s made → CodeClaim s made
+pub code-demand3 : (s : QoSScheduler) → Valid s → (made : List Made) → History s made → CodeClaim (abs s) s made
 code-demand3 s v made h past next cut =
     let parts : History s past × History (left s past) next = history-cut s past next (subst (History s) (sym cut) h) in
     code-point s v past next (parts .0) (parts .1)
 
--- from new
-pub code-demand3-new : (s : QoSScheduler) → IsNew s → (made : List Made) → History s made → CodeClaim s made
-code-demand3-new s n made h = code-demand3 s (n .valid) made h
+-- from new: the rules start at the new state
+pub code-demand3-new : (s : QoSScheduler) → IsNew s → (made : List Made) → History s made → CodeClaim newState s made
+code-demand3-new s n made h = subst (λ (t : State). CodeClaim t s made) (n .state-is) (code-demand3 s (n .valid) made h)
+
+-- X's stretch in a history is as long as can be
+pub stretchIn-longest : (x : ℕ) (s : QoSScheduler) (next : List Made) → Longest (breaks x) (picks x) (happened s next) (stretchIn x s next)
+stretchIn-longest x s next = longest (breaks x) (picks x) (happened s next)
 
 -- ---- every accepted state is held by some valid scheduler, and every list of calls has a history
 

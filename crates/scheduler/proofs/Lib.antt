@@ -5,10 +5,19 @@
 --   Refusals    a refusal changes nothing; number 2 is never answered
 --   Picks       rule P                                    Waiting     demand 3
 --   Stretches   the stretch is as long as can be          Worked      one stretch, computed
---   Histories   demands 2 and 3 on the code               Asked       slots and cores of 64 and above, in queries
+--   Asked       slots and cores of 64 and above, in queries
 --
--- How they are shown: Says pairs tests with facts, Lists and Parts are about lists and stores, Invariant is acceptance as the proofs carry it,
--- Moves are the changes that calls are made of, Effects what each call does, Course every call followed once, Turns one call as X sees it.
+-- and what the code's contracts promise together:
+--
+--   Histories   demands 2 and 3 on the code
+--
+-- How the rules' laws are shown: Says pairs tests with facts, Lists and Parts are about lists and stores, Invariant is acceptance as the proofs
+-- carry it, Moves are the changes that calls are made of, Effects what each call does, Course every call followed once, Turns one call as X
+-- sees it.
+--
+-- How the code is shown to follow the rules: Stored is about the stored scheduler's arrays, Searches, Seeking and Removals about the loops,
+-- Holders about a core's holder; Promises makes a contract of what a method did; OnSlots, OnCores, OnTicks and OnPlans have a law for each way out
+-- of the methods, and Answers for each way out of the queries and the private parts. The functions' own proofs cite these.
 pub mod KCases
 pub mod Accepts
 pub mod Calls
@@ -27,14 +36,14 @@ mod Moves
 mod Effects
 mod Course
 mod Turns
-mod Searches
 mod Stored
+mod Searches
+mod Seeking
+mod Removals
+mod Holders
 mod Promises
 mod OnSlots
-mod Seeking
 mod OnCores
-mod Holders
 mod OnTicks
-mod Answers
-mod Removals
 mod OnPlans
+mod Answers

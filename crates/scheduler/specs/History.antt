@@ -40,6 +40,10 @@ unfoldable pub happened : QoSScheduler → List Made → List Event
 happened s [] = []
 happened s (a ∷ rest) = record { call = a .call; found = abs s; answer = a .reply .answer } ∷ happened (a .reply .state) rest
 
+-- X's stretch from a point on, in the history
+abbrev pub stretchIn : ℕ → QoSScheduler → List Made → List Event
+stretchIn x s next = stretch (breaks x) (picks x) (happened s next)
+
 -- what one call gave back, as the rules put it
 abbrev pub outcomeOf : Reply → Outcome
 outcomeOf r = record { answer = r .answer; state = abs (r .state) }
@@ -60,8 +64,9 @@ pub record CodePoint (start : State) (past : List Call) (s : QoSScheduler) (next
   pub stands : (x : ℕ) → task (abs s) x .state ≡ Ready → (rest : List ℕ) × (queue (abs s) (task (abs s) x .qos) ≡ ahead (abs s) x ++ x ∷ rest)
   -- "Whatever other tasks and cores do in that stretch, [..]": the picks are those in the code's answers
   pub waiting : (x : ℕ) → task (abs s) x .state ≡ Ready →
-      Waiting (task (abs s) x .qos) x (ahead (abs s) x) (stretch (breaks x) (picks x) (happened s next))
+      Waiting (task (abs s) x .qos) x (ahead (abs s) x) (stretchIn x s next)
 
--- "All this is a single claim about the list": at every point, however the history is cut
-abbrev pub CodeClaim : QoSScheduler → List Made → Type 0
-CodeClaim s₀ made = (past next : List Made) → past ++ next ≡ made → CodePoint (abs s₀) (callsOf past) (left s₀ past) next
+-- "All this is a single claim about the list": at every point, however the history is cut. `start` is the state that the scheduler `s` holds at
+-- its start.
+abbrev pub CodeClaim : State → QoSScheduler → List Made → Type 0
+CodeClaim start s made = (past next : List Made) → past ++ next ≡ made → CodePoint start (callsOf past) (left s past) next

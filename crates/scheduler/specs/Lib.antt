@@ -1,5 +1,5 @@
--- Document 01's rules as definitions, in its order, and demand 3 on them. Rules and tests compute; what is claimed
--- of them is a record with named fields (`Accepted`, `Carries`, `Waiting`, `Longest`).
+-- Document 01's rules as definitions, in its order, and demand 3 on them; then the stored scheduler, and the same of the code. Rules and tests
+-- compute; what is claimed of them is a record with named fields (`Accepted`, `Carries`, `Waiting`, `Longest`, `Meets`, `CodePoint`).
 --
 --   State      the state, and new                        Accepted   which states are accepted, as conditions and as a test
 --   Outcome    what a call makes of a state              Picking    rule P, schedule
@@ -8,7 +8,7 @@
 --   Took       what P takes in a call                    Paper      an answer's numbers
 --   Stretch    X's stretch, its picks, those before X    Demand3    what is claimed of every list
 --   Longest    what keeps the stretch from being cut short
---   Scheduler  the stored scheduler, and what every call promises of it
+--   Scheduler  the stored scheduler, what calls promise    History    histories of calls, and what is claimed of each
 pub mod State
 pub mod Accepted
 pub mod Outcome

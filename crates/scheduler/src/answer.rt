@@ -30,11 +30,10 @@ impl Answer {
     pub(crate) fn chosen(slot: Slot, band: QoSClass) -> Self
         ensures { λ r. ⌜ r ≡ chosenAnswer slot band ⌝ }
     {
-        Answer {
-            status: Status::Done,
-            pick: PickOption::Some(Pick { slot, band }),
-            value: Value::Slot(SlotOption::Some(slot)),
-        }
+        Answer::done(
+            PickOption::Some(Pick { slot, band }),
+            Value::Slot(SlotOption::Some(slot)),
+        )
     }
 
     // Refused: no pick and no value.
