@@ -7,14 +7,15 @@ use Rattle.scheduler.proofs.ticking.plan_from.Tie as tie
 returns : tie.Need-returns
 returns c =
     let at-args = c .before .before .before .before .before .before .before in
-    plan-told (at-args .args .previous) _ (at-args .args .reply) (c .done .ensures)
-    (plan-same (at-args .pre .0) (at-args .pre .1) _ (c .before .before .before .holder-of .ensures) (at-args .args .previous) (c .before .before .same-slot .ensures) (c .before .if1 .taken))
+    plan-told (at-args .args .previous) _ (at-args .args .reply) (c .done .ensures) (plan-same (at-args .pre .0) (at-args .pre .1) _
+    (c .before .before .before .holder-of .ensures) (at-args .args .previous) (c .before .before .same-slot .ensures) (c .before .if1 .taken))
 
 returns-2 : tie.Need-returns-2
 returns-2 c =
     let at-args = c .before .before .before .before .before .before .before .before in
-    plan-told (at-args .args .previous) _ (at-args .args .reply) (c .done2 .ensures)
-    (plan-other (at-args .pre .0) (at-args .pre .1) _ (c .before .before .before .before .holder-of .ensures) (at-args .args .previous) (c .before .before .before .same-slot .ensures) (c .before .before .if1 .left) (c .before .target-on .ensures))
+    plan-told (at-args .args .previous) _ (at-args .args .reply) (c .done2 .ensures) (plan-other (at-args .pre .0) (at-args .pre .1) _
+    (c .before .before .before .before .holder-of .ensures) (at-args .args .previous) (c .before .before .before .same-slot .ensures)
+    (c .before .before .if1 .left) (c .before .target-on .ensures))
 
 pub plan-from-spec : {M : Type 1} → statement M
 plan-from-spec =

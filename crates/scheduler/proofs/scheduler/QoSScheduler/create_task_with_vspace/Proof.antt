@@ -21,17 +21,19 @@ loop-holds c = (refl, (c .pre, omega arith))
 
 returns : tie.Need-returns Inv-loop μ-loop
 returns c =
-    meets-from (c .before .before .before .before .loop .inv .0)
-    (create-done (c .before .before .before .before .loop .inv .1 .0) _ (c .before .before .before .before .loop .inv .1 .1) (c .before .before .before .loop-test .taken) _ (c .before .before .if1 .taken) (c .before .created .ensures) (c .done .ensures))
+    let inv = c .before .before .before .before .loop .inv in
+    meets-from (inv .0) (create-done (inv .1 .0) _ (inv .1 .1) (c .before .before .before .loop-test .taken) _ (c .before .before .if1 .taken)
+    (c .before .created .ensures) (c .done .ensures))
 
 loop-again : tie.Need-loop-again Inv-loop μ-loop
 loop-again c =
-    (c .before .before .loop .inv .0, (c .before .before .loop .inv .1 .0, create-on (c .before .before .loop .inv .1 .0) _ (c .before .before .loop .inv .1 .1) _ (c .before .loop-test .taken) (c .if1 .left)))
+    let inv = c .before .before .loop .inv in
+    (inv .0, (inv .1 .0, create-on (inv .1 .0) _ (inv .1 .1) _ (c .before .loop-test .taken) (c .if1 .left)))
 
 returns-2 : tie.Need-returns-2 Inv-loop μ-loop
 returns-2 c =
-    meets-from (c .before .before .loop .inv .0)
-    (create-full (c .before .before .loop .inv .1 .0) _ (c .before .before .loop .inv .1 .1) (c .before .loop-test .left) (c .refused .ensures))
+    let inv = c .before .before .loop .inv in
+    meets-from (inv .0) (create-full (inv .1 .0) _ (inv .1 .1) (c .before .loop-test .left) (c .refused .ensures))
 
 pub create-task-with-vspace-spec : {M : Type 1} → statement M
 create-task-with-vspace-spec =

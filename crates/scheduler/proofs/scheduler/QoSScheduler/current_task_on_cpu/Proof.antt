@@ -13,8 +13,11 @@ returns c = sym (no-core-record _ (c .if1 .taken) _)
 
 mul-t12 : tie.Need-mul-t12
 mul-t12 c =
-    omega
-    (arith, holder-below (c .before .before .before .before .before .before .pre) (c .before .before .before .before .before .if1 .left) _ (c .before .before .before .holder-of .ensures) (c .before .holder .given .1))
+    omega (
+      arith,
+      holder-below (c .before .before .before .before .before .before .pre) (c .before .before .before .before .before .if1 .left) _
+          (c .before .before .before .holder-of .ensures) (c .before .holder .given .1),
+    )
 
 element-copy-out-t15 : tie.Need-element-copy-out-t15
 element-copy-out-t15 c =

@@ -30,8 +30,11 @@ returns-2 c =
 mul-task : tie.Need-mul-task
 mul-task c =
     let at-pre = c .before .before .before .before .before .before .before in
-    omega
-    (arith, holder-below (at-pre .pre) (c .before .before .before .before .before .if1 .left) _ (c .before .before .before .holder-of .ensures) (c .before .slot .given .1))
+    omega (
+      arith,
+      holder-below (at-pre .pre) (c .before .before .before .before .before .if1 .left) _ (c .before .before .before .holder-of .ensures)
+          (c .before .slot .given .1),
+    )
 
 element-copy-out-task : tie.Need-element-copy-out-task
 element-copy-out-task c =
@@ -59,8 +62,11 @@ waits-before-requires c κs =
 mul-t41 : tie.Need-mul-t41
 mul-t41 c =
     let at-slot = c .before .before .before .before .before .before .before .before .before .before in
-    omega
-    (arith, holder-below (at-slot .before .before .before .before .before .before .pre) (at-slot .before .before .before .before .if1 .left) _ (at-slot .before .before .holder-of .ensures) (at-slot .slot .given .1))
+    omega (
+      arith,
+      holder-below (at-slot .before .before .before .before .before .before .pre) (at-slot .before .before .before .before .if1 .left) _
+          (at-slot .before .before .holder-of .ensures) (at-slot .slot .given .1),
+    )
 
 element-set-from-self : tie.Need-element-set-from-self
 element-set-from-self c =
@@ -81,8 +87,11 @@ returns-4 c =
 mul-t51 : tie.Need-mul-t51
 mul-t51 c =
     let at-slot = c .before .before .before .before .before .before .before .before .before .before in
-    omega
-    (arith, holder-below (at-slot .before .before .before .before .before .before .pre) (at-slot .before .before .before .before .if1 .left) _ (at-slot .before .before .holder-of .ensures) (at-slot .slot .given .1))
+    omega (
+      arith,
+      holder-below (at-slot .before .before .before .before .before .before .pre) (at-slot .before .before .before .before .if1 .left) _
+          (at-slot .before .before .holder-of .ensures) (at-slot .slot .given .1),
+    )
 
 element-set-from-self-2 : tie.Need-element-set-from-self-2
 element-set-from-self-2 c =
@@ -119,8 +128,11 @@ push-requires c κs =
 mul-t26 : tie.Need-mul-t26
 mul-t26 c =
     let at-slot = c .before .before .before .before .before .before .before .before .before .before .before .before .before .before .before in
-    omega
-    (arith, holder-below (at-slot .before .before .before .before .before .before .pre) (at-slot .before .before .before .before .if1 .left) _ (at-slot .before .before .holder-of .ensures) (at-slot .slot .given .1))
+    omega (
+      arith,
+      holder-below (at-slot .before .before .before .before .before .before .pre) (at-slot .before .before .before .before .if1 .left) _
+          (at-slot .before .before .holder-of .ensures) (at-slot .slot .given .1),
+    )
 
 element-set-from-self-3 : tie.Need-element-set-from-self-3
 element-set-from-self-3 c =

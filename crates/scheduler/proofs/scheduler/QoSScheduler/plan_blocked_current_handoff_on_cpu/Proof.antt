@@ -16,8 +16,11 @@ returns-2 c =
 
 mul-task : tie.Need-mul-task
 mul-task c =
-    omega
-    (arith, holder-below (c .before .before .before .before .before .before .pre) (c .before .before .before .before .before .if1 .left) _ (c .before .before .before .holder-of .ensures) (c .before .previous .given .1))
+    omega (
+      arith,
+      holder-below (c .before .before .before .before .before .before .pre) (c .before .before .before .before .before .if1 .left) _
+          (c .before .before .before .holder-of .ensures) (c .before .previous .given .1),
+    )
 
 element-copy-out-task : tie.Need-element-copy-out-task
 element-copy-out-task c =

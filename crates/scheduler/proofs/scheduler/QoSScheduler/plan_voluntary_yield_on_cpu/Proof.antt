@@ -19,8 +19,11 @@ returns-2 c =
 
 mul-task : tie.Need-mul-task
 mul-task c =
-    omega
-    (arith, holder-below (c .before .before .before .before .before .before .pre) (c .before .before .before .before .before .if1 .left) _ (c .before .before .before .holder-of .ensures) (c .before .previous .given .1))
+    omega (
+      arith,
+      holder-below (c .before .before .before .before .before .before .pre) (c .before .before .before .before .before .if1 .left) _
+          (c .before .before .before .holder-of .ensures) (c .before .previous .given .1),
+    )
 
 element-copy-out-task : tie.Need-element-copy-out-task
 element-copy-out-task c =
@@ -41,8 +44,11 @@ push-requires c κs =
 mul-t21 : tie.Need-mul-t21
 mul-t21 c =
     let at-previous = c .before .before .before .before .before .before .before .before .before in
-    omega
-    (arith, holder-below (at-previous .before .before .before .before .before .pre) (at-previous .before .before .before .before .if1 .left) _ (at-previous .before .before .holder-of .ensures) (at-previous .previous .given .1))
+    omega (
+      arith,
+      holder-below (at-previous .before .before .before .before .before .pre) (at-previous .before .before .before .before .if1 .left) _
+          (at-previous .before .before .holder-of .ensures) (at-previous .previous .given .1),
+    )
 
 element-set-from-self : tie.Need-element-set-from-self
 element-set-from-self c =

@@ -24,73 +24,113 @@ loop-holds : tie.Need-loop-holds Inv-loop μ-loop
 loop-holds c = (refl, (c .before .pre, seeking-first _ _))
 
 entry-at-requires : tie.Need-entry-at-requires Inv-loop μ-loop
-entry-at-requires c κs = ring-below _ ((c .before .before .loop .inv .1 .0) .whole) _ _ (search needs)
+entry-at-requires c κs = ring-below _ (c .before .before .loop .inv .1 .0 .whole) _ _ (search needs)
 
 loop-again : tie.Need-loop-again Inv-loop μ-loop
 loop-again c =
-    (c .before .before .before .before .before .loop .inv .0, ((c .before .before .before .before .before .loop .inv .1 .0), on-to-band (c .before .before .before .before .before .loop .inv .1 .0) (c .before .before .before .before .before .loop .inv .1 .1) (c .before .before .before .before .loop-test .taken) _ (c .before .before .entry-at .ensures) (c .enum-told .given .1)))
+    let inv = c .before .before .before .before .before .loop .inv in (
+      inv .0,
+      (
+        (inv .1 .0),
+        on-to-band (inv .1 .0) (inv .1 .1) (c .before .before .before .before .loop-test .taken) _
+            (c .before .before .entry-at .ensures) (c .enum-told .given .1),
+      ),
+    )
 
 mul-task : tie.Need-mul-task Inv-loop μ-loop
 mul-task c =
-    omega
-    (arith, entry-low (c .before .before .before .before .before .before .loop .inv .1 .0) (c .before .before .before .before .before .before .loop .inv .1 .1) (c .before .before .before .before .before .loop-test .taken) _ (c .before .before .before .entry-at .ensures) _ (c .before .entry .given .1))
+    let inv = c .before .before .before .before .before .before .loop .inv in
+    omega (
+      arith,
+      entry-low (inv .1 .0) (inv .1 .1) (c .before .before .before .before .before .loop-test .taken) _
+          (c .before .before .before .entry-at .ensures) _ (c .before .entry .given .1),
+    )
 
 element-copy-out-task : tie.Need-element-copy-out-task Inv-loop μ-loop
 element-copy-out-task c =
-    entry-low (c .before .before .before .before .before .before .loop .inv .1 .0)
-    (c .before .before .before .before .before .before .loop .inv .1 .1) (c .before .before .before .before .before .loop-test .taken) _
-    (c .before .before .before .entry-at .ensures) _ (c .before .entry .given .1)
+    let inv = c .before .before .before .before .before .before .loop .inv in
+    entry-low (inv .1 .0) (inv .1 .1) (c .before .before .before .before .before .loop-test .taken) _ (c .before .before .before .entry-at .ensures)
+    _ (c .before .entry .given .1)
 
 take-at-requires : tie.Need-take-at-requires Inv-loop μ-loop
 take-at-requires c κs =
     let at-loop = c .before .before .before .before .before .before .before .before .before in
-    ring-below _ ((at-loop .loop .inv .1 .0) .whole) _ _ (search needs)
+    ring-below _ (at-loop .loop .inv .1 .0 .whole) _ _ (search needs)
 
 mul-t28 : tie.Need-mul-t28 Inv-loop μ-loop
 mul-t28 c =
     let at-entry = c .before .before .before .before .before .before .before in
-    omega
-    (arith, entry-low (at-entry .before .before .before .before .before .loop .inv .1 .0) (at-entry .before .before .before .before .before .loop .inv .1 .1) (at-entry .before .before .before .before .loop-test .taken) _ (at-entry .before .before .entry-at .ensures) _ (at-entry .entry .given .1))
+    let inv = at-entry .before .before .before .before .before .loop .inv in
+    omega (
+      arith,
+      entry-low (inv .1 .0) (inv .1 .1) (at-entry .before .before .before .before .loop-test .taken) _
+          (at-entry .before .before .entry-at .ensures) _ (at-entry .entry .given .1),
+    )
 
 element-set-from-self : tie.Need-element-set-from-self Inv-loop μ-loop
 element-set-from-self c =
     let at-entry = c .before .before .before .before .before .before .before in
-    entry-low (at-entry .before .before .before .before .before .loop .inv .1 .0) (at-entry .before .before .before .before .before .loop .inv .1 .1)
-    (at-entry .before .before .before .before .loop-test .taken) _ (at-entry .before .before .entry-at .ensures) _ (at-entry .entry .given .1)
+    let inv = at-entry .before .before .before .before .before .loop .inv in
+    entry-low (inv .1 .0) (inv .1 .1) (at-entry .before .before .before .before .loop-test .taken) _ (at-entry .before .before .entry-at .ensures) _
+    (at-entry .entry .given .1)
 
 cast-self : tie.Need-cast-self Inv-loop μ-loop
 cast-self c =
     let at-entry = c .before .before .before .before .before .before .before in
-    omega
-    (arith, entry-low (at-entry .before .before .before .before .before .loop .inv .1 .0) (at-entry .before .before .before .before .before .loop .inv .1 .1) (at-entry .before .before .before .before .loop-test .taken) _ (at-entry .before .before .entry-at .ensures) _ (at-entry .entry .given .1))
+    let inv = at-entry .before .before .before .before .before .loop .inv in
+    omega (
+      arith,
+      entry-low (inv .1 .0) (inv .1 .1) (at-entry .before .before .before .before .loop-test .taken) _
+          (at-entry .before .before .entry-at .ensures) _ (at-entry .entry .given .1),
+    )
 
 returns-2 : tie.Need-returns-2 Inv-loop μ-loop
 returns-2 c =
     let at-entry = c .before .before .before .before .before .before .before .before in
-    meets-from (at-entry .before .before .before .before .before .loop .inv .0)
-    (schedule-picked (at-entry .before .before .before .before .before .loop .inv .1 .0) (at-entry .before .before .before .before .before .loop .inv .1 .1) (at-entry .before .before .before .before .loop-test .taken) _ (at-entry .before .before .entry-at .ensures) _ (at-entry .entry .given .1) _ (c .before .before .before .before .before .mask-permits .ensures) (at-entry .before .before .before .before .before .before .if1 .left) (c .before .before .before .before .if2 .taken) (c .before .before .before .take-at .ensures) (c .before .picked .ensures) (c .chosen .ensures))
+    let inv = at-entry .before .before .before .before .before .loop .inv in
+    meets-from (inv .0) (schedule-picked (inv .1 .0) (inv .1 .1) (at-entry .before .before .before .before .loop-test .taken) _
+    (at-entry .before .before .entry-at .ensures) _ (at-entry .entry .given .1) _ (c .before .before .before .before .before .mask-permits .ensures)
+    (at-entry .before .before .before .before .before .before .if1 .left) (c .before .before .before .before .if2 .taken)
+    (c .before .before .before .take-at .ensures) (c .before .picked .ensures) (c .chosen .ensures))
 
 add-place : tie.Need-add-place Inv-loop μ-loop
 add-place c =
     let at-loop-test = c .before .before .before .before .before .before .before .before in
-    omega
-    (arith, place-low (at-loop-test .before .loop .inv .1 .0) (at-loop-test .before .loop .inv .1 .1) (at-loop-test .loop-test .taken) _ (c .before .before .before .before .before .before .entry-at .ensures) _ (c .before .before .before .before .entry .given .1))
+    let inv = at-loop-test .before .loop .inv in
+    omega (
+      arith,
+      place-low (inv .1 .0) (inv .1 .1) (at-loop-test .loop-test .taken) _
+          (c .before .before .before .before .before .before .entry-at .ensures) _ (c .before .before .before .before .entry .given .1),
+    )
 
 loop-less-2 : tie.Need-loop-less-2 Inv-loop μ-loop
 loop-less-2 c =
     let at-loop-test = c .before .before .before .before .before .before .before .before in
-    omega
-    (arith, place-low (at-loop-test .before .loop .inv .1 .0) (at-loop-test .before .loop .inv .1 .1) (at-loop-test .loop-test .taken) _ (c .before .before .before .before .before .before .entry-at .ensures) _ (c .before .before .before .before .entry .given .1))
+    let inv = at-loop-test .before .loop .inv in
+    omega (
+      arith,
+      place-low (inv .1 .0) (inv .1 .1) (at-loop-test .loop-test .taken) _
+          (c .before .before .before .before .before .before .entry-at .ensures) _ (c .before .before .before .before .entry .given .1),
+    )
 
 loop-again-2 : tie.Need-loop-again-2 Inv-loop μ-loop
 loop-again-2 c =
     let at-loop-test = c .before .before .before .before .before .before .before .before in
-    (at-loop-test .before .loop .inv .0, ((at-loop-test .before .loop .inv .1 .0), on-to-place (at-loop-test .before .loop .inv .1 .0) (at-loop-test .before .loop .inv .1 .1) (at-loop-test .loop-test .taken) _ (c .before .before .before .before .before .before .entry-at .ensures) _ (c .before .before .before .before .entry .given .1) _ (c .before .mask-permits .ensures) (c .if2 .left)))
+    let inv = at-loop-test .before .loop .inv in (
+      inv .0,
+      (
+        (inv .1 .0),
+        on-to-place (inv .1 .0) (inv .1 .1) (at-loop-test .loop-test .taken) _
+            (c .before .before .before .before .before .before .entry-at .ensures) _ (c .before .before .before .before .entry .given .1) _
+            (c .before .mask-permits .ensures) (c .if2 .left),
+      ),
+    )
 
 returns-3 : tie.Need-returns-3 Inv-loop μ-loop
 returns-3 c =
-    meets-from (c .before .before .loop .inv .0)
-    (schedule-none (c .before .before .loop .inv .1 .0) (c .before .before .before .if1 .left) (c .before .before .loop .inv .1 .1) (c .before .loop-test .left) (c .told2 .ensures))
+    let inv = c .before .before .loop .inv in
+    meets-from (inv .0)
+    (schedule-none (inv .1 .0) (c .before .before .before .if1 .left) (inv .1 .1) (c .before .loop-test .left) (c .told2 .ensures))
 
 pub schedule-on-cpu-spec : {M : Type 1} → statement M
 schedule-on-cpu-spec =

@@ -8,8 +8,11 @@ use Rattle.scheduler.proofs.scheduler.QoSScheduler.target_on.Tie as tie
 
 mul-task : tie.Need-mul-task
 mul-task c =
-    omega
-    (arith, holder-below (c .before .before .before .before .before .pre .0) (c .before .before .before .before .before .pre .1) _ (c .before .before .before .holder-of .ensures) (c .before .holder .given .1))
+    omega (
+      arith,
+      holder-below (c .before .before .before .before .before .pre .0) (c .before .before .before .before .before .pre .1) _
+          (c .before .before .before .holder-of .ensures) (c .before .holder .given .1),
+    )
 
 element-copy-out-task : tie.Need-element-copy-out-task
 element-copy-out-task c =

@@ -23,14 +23,20 @@ entry-at-requires c κs = ring-below _ (c .before .before .before .before .pre .
 
 loop-again : tie.Need-loop-again Inv-loop μ-loop
 loop-again c =
-    let at-pre = c .before .before .before .before .before .before .before in
-    (c .before .before .before .before .before .loop .inv .0, on-to-band (at-pre .pre) (c .before .before .before .before .before .loop .inv .1) (omega arith) _ (c .before .before .entry-at .ensures) (c .enum-told .given .1))
+    let at-pre = c .before .before .before .before .before .before .before in (
+      c .before .before .before .before .before .loop .inv .0,
+      on-to-band (at-pre .pre) (c .before .before .before .before .before .loop .inv .1)
+          (omega arith) _ (c .before .before .entry-at .ensures) (c .enum-told .given .1),
+    )
 
 mul-task : tie.Need-mul-task Inv-loop μ-loop
 mul-task c =
     let at-pre = c .before .before .before .before .before .before .before .before in
-    omega
-    (arith, entry-low (at-pre .pre) (c .before .before .before .before .before .before .loop .inv .1) (omega arith) _ (c .before .before .before .entry-at .ensures) _ (c .before .entry .given .1))
+    omega (
+      arith,
+      entry-low (at-pre .pre) (c .before .before .before .before .before .before .loop .inv .1) (omega arith) _
+          (c .before .before .before .entry-at .ensures) _ (c .before .entry .given .1),
+    )
 
 element-copy-out-task : tie.Need-element-copy-out-task Inv-loop μ-loop
 element-copy-out-task c =
@@ -48,19 +54,29 @@ returns c =
 add-place : tie.Need-add-place Inv-loop μ-loop
 add-place c =
     let at-loop = c .before .before .before .before .before .before .before .before .before in
-    omega
-    (arith, place-low (at-loop .before .before .pre) (at-loop .loop .inv .1) (omega arith) _ (c .before .before .before .before .before .before .entry-at .ensures) _ (c .before .before .before .before .entry .given .1))
+    omega (
+      arith,
+      place-low (at-loop .before .before .pre) (at-loop .loop .inv .1) (omega arith) _
+          (c .before .before .before .before .before .before .entry-at .ensures) _ (c .before .before .before .before .entry .given .1),
+    )
 
 loop-less-2 : tie.Need-loop-less-2 Inv-loop μ-loop
 loop-less-2 c =
     let at-loop = c .before .before .before .before .before .before .before .before .before in
-    omega
-    (arith, place-low (at-loop .before .before .pre) (at-loop .loop .inv .1) (omega arith) _ (c .before .before .before .before .before .before .entry-at .ensures) _ (c .before .before .before .before .entry .given .1))
+    omega (
+      arith,
+      place-low (at-loop .before .before .pre) (at-loop .loop .inv .1) (omega arith) _
+          (c .before .before .before .before .before .before .entry-at .ensures) _ (c .before .before .before .before .entry .given .1),
+    )
 
 loop-again-2 : tie.Need-loop-again-2 Inv-loop μ-loop
 loop-again-2 c =
-    let at-loop = c .before .before .before .before .before .before .before .before .before in
-    (at-loop .loop .inv .0, on-to-place (at-loop .before .before .pre) (at-loop .loop .inv .1) (omega arith) _ (c .before .before .before .before .before .before .entry-at .ensures) _ (c .before .before .before .before .entry .given .1) _ (c .before .mask-permits .ensures) (c .if1 .left))
+    let at-loop = c .before .before .before .before .before .before .before .before .before in (
+      at-loop .loop .inv .0,
+      on-to-place (at-loop .before .before .pre) (at-loop .loop .inv .1) (omega arith) _
+          (c .before .before .before .before .before .before .entry-at .ensures) _ (c .before .before .before .before .entry .given .1) _
+          (c .before .mask-permits .ensures) (c .if1 .left),
+    )
 
 returns-2 : tie.Need-returns-2 Inv-loop μ-loop
 returns-2 c =
