@@ -28,12 +28,11 @@ use Rattle.scheduler.specs.declared.scheduler.QoSScheduler.{QoSScheduler
 use Rattle.scheduler.specs.declared.scheduler.Reply.{Reply}
 use Rattle.scheduler.specs.State as state
 use Rattle.scheduler.specs.State.{noneByte, newState, holderIn, holderOf, firstPlace}
-use Rattle.scheduler.specs.Accepted.{Accepted}
+use Rattle.scheduler.specs.Accepted.{Accepted, Each}
 use Rattle.scheduler.specs.Outcome.{answered}
 use Rattle.scheduler.specs.Queries.{canRunOnCore, hasTid, taskIndexForTid, taskAt, recordOf, currentTaskOnCpu, coreOf}
 use Rattle.scheduler.specs.Ticking.{targetOf, same, planOf}
 use Rattle.scheduler.specs.Waking.{released}
-use Rattle.scheduler.specs.Demand3.{Each}
 use Rattle.scheduler.specs.Scheduler.{queuesOf, abs, Valid, IsNew, planFrom}
 use Rattle.scheduler.proofs.Calls.{new-accepted}
 use Rattle.scheduler.proofs.Holders.{held, holder-below}

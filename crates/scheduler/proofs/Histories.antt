@@ -12,11 +12,11 @@ use Rattle.scheduler.specs.declared.call.Call.{Call}
 use Rattle.scheduler.specs.declared.scheduler.QoSScheduler.{QoSScheduler}
 use Rattle.scheduler.specs.declared.scheduler.Reply.{Reply}
 use Rattle.scheduler.specs.State.{State, newState, queue}
-use Rattle.scheduler.specs.Accepted.{Accepted}
+use Rattle.scheduler.specs.Accepted.{Accepted, Each}
 use Rattle.scheduler.specs.Step.{step, run}
 use Rattle.scheduler.specs.Took.{Carries}
 use Rattle.scheduler.specs.Stretch.{events, breaks, picks}
-use Rattle.scheduler.specs.Demand3.{Each, Point}
+use Rattle.scheduler.specs.Demand3.{Point}
 use Rattle.scheduler.specs.Longest.{Longest}
 use Rattle.scheduler.specs.Scheduler.{queuesOf, abs, Valid, IsNew, Meets}
 use Rattle.scheduler.specs.History.{Made, History, left, callsOf, happened, stretchIn, outcomeOf, CodePoint, CodeClaim}

@@ -35,7 +35,7 @@ use Rattle.scheduler.specs.State.{firstPlace, task, queue, withBand, eac
 use Rattle.scheduler.specs.Outcome.{answered, done}
 use Rattle.scheduler.specs.Scheduler.{queuesOf, abs, Valid, Meets, Hold, refusedBy}
 use Rattle.scheduler.specs.Waking.{freeSlot, create, released, affinity, outOfHolders, terminate, missing, outOfQueues, block, wake, enqueued, enqueue}
-use Rattle.scheduler.proofs.Promises.{meets, meets-refused, meets-as}
+use Rattle.scheduler.proofs.Promises.{leaving, meets-put, kept, meets-refused, meets-as}
 use Rattle.scheduler.proofs.Stored.{slots, record-at, queue-at, pushed-back}
 use Rattle.scheduler.proofs.Searches.{search-on, search-found}
 
@@ -72,19 +72,15 @@ module _ {s : QoSScheduler} (v : Valid s) {slot : Slot} (d : TaskControlBlock) (
   read-is = record-at s v (slot .0) d low
 
   pub affinity-done : {mask : ℕ} {a : Answer} {t : TaskControlBlock} → t ≡ withMask read (storedMask mask) → a ≡ answered pick.None value.Nothing →
-      Meets (Affinity slot mask) s (record { answer = a; state = record { tasks = set (s .tasks) (slot .0) t; queues = s .queues; current = s .current; «system_ticks_us» = s .«system_ticks_us» } })
+      Meets (Affinity slot mask) s (leaving s a (set (s .tasks) (slot .0) t) (s .queues) (s .current))
   unfolding affinity abs
-  affinity-done {mask} t-is a-is =
-      meets v (done value.Nothing (withTask (abs s) (slot .0) (withMask read (storedMask mask)))) (rw (lt-leb 64 (slot .0) low) (rw (sym read-is) refl)) (v .whole) a-is
-      (λ i. record { tasks = set (s .tasks) (slot .0) (t-is i); queues = queuesOf (s .queues); holders = s .current; micros = s .«system_ticks_us» })
+  affinity-done t-is a-is = meets-put v (slot .0) t-is (kept v) refl a-is (rw (lt-leb 64 (slot .0) low) (rw (sym read-is) refl))
 
   pub terminate-done : {a : Answer} {t : TaskControlBlock} {qs : List BandQueue} {hs : List ℕ} → t ≡ terminated read →
       Hold qs (eachQueue (without (slot .0)) (queuesOf (s .queues))) → hs ≡ map (released (slot .0)) (s .current) → a ≡ answered pick.None value.Nothing →
-      Meets (Terminate slot) s (record { answer = a; state = record { tasks = set (s .tasks) (slot .0) t; queues = qs; current = hs; «system_ticks_us» = s .«system_ticks_us» } })
+      Meets (Terminate slot) s (leaving s a (set (s .tasks) (slot .0) t) qs hs)
   unfolding terminate abs
-  terminate-done t-is out hs-is a-is =
-      meets v (done value.Nothing (withTask (outOfQueues (slot .0) (outOfHolders (slot .0) (abs s))) (slot .0) (terminated read))) (rw (lt-leb 64 (slot .0) low) (rw (sym read-is) refl)) (out .whole) a-is
-      (λ i. record { tasks = set (s .tasks) (slot .0) (t-is i); queues = out .entries-are i; holders = hs-is i; micros = s .«system_ticks_us» })
+  terminate-done t-is out hs-is a-is = meets-put v (slot .0) t-is out hs-is a-is (rw (lt-leb 64 (slot .0) low) (rw (sym read-is) refl))
 
   free-missing : not (read .«in_use») ≡ true → missing (abs s) (slot .0) ≡ true
   free-missing free = rw (lt-leb 64 (slot .0) low) (rw (sym read-is) (rw free refl))
@@ -112,11 +108,9 @@ module _ {s : QoSScheduler} (v : Valid s) {slot : Slot} (d : TaskControlBlock) (
 
     pub block-done : {a : Answer} {t : TaskControlBlock} {qs : List BandQueue} → isState (read .state) Blocked ≡ false →
         Hold qs (eachQueue (without (slot .0)) (queuesOf (s .queues))) → t ≡ blocked read → a ≡ answered pick.None value.Nothing →
-        Meets (Block slot) s (record { answer = a; state = record { tasks = set (s .tasks) (slot .0) t; queues = qs; current = s .current; «system_ticks_us» = s .«system_ticks_us» } })
+        Meets (Block slot) s (leaving s a (set (s .tasks) (slot .0) t) qs (s .current))
     unfolding block abs
-    block-done so out t-is a-is =
-        meets v (done value.Nothing (withTask (outOfQueues (slot .0) (abs s)) (slot .0) (blocked read))) (rw there (rw (sym read-is) (rw so refl))) (out .whole) a-is
-        (λ i. record { tasks = set (s .tasks) (slot .0) (t-is i); queues = out .entries-are i; holders = s .current; micros = s .«system_ticks_us» })
+    block-done so out t-is a-is = meets-put v (slot .0) t-is out refl a-is (rw there (rw (sym read-is) (rw so refl)))
 
     pub wake-other : {r : Reply} → isState (read .state) Blocked ≡ false → r ≡ refusedBy s NotBlocked → Meets (Wake slot) s r
     unfolding wake
@@ -129,17 +123,17 @@ module _ {s : QoSScheduler} (v : Valid s) {slot : Slot} (d : TaskControlBlock) (
           meets-as m (rw there (rw (sym read-is) (rw so (rw (sym core-is) (rw (le-ltb core 64 none) refl)))))
 
       pub wake-held : {a : Answer} {t : TaskControlBlock} → core < 64 → t ≡ withState read Running → a ≡ answered pick.None value.Nothing →
-          Meets (Wake slot) s (record { answer = a; state = record { tasks = set (s .tasks) (slot .0) t; queues = s .queues; current = s .current; «system_ticks_us» = s .«system_ticks_us» } })
+          Meets (Wake slot) s (leaving s a (set (s .tasks) (slot .0) t) (s .queues) (s .current))
       unfolding wake abs
       wake-held held t-is a-is =
-          meets v (done value.Nothing (withTask (abs s) (slot .0) (withState read Running))) (rw there (rw (sym read-is) (rw so (rw (sym core-is) (rw (lt-ltb core 64 held) refl))))) (v .whole) a-is
-          (λ i. record { tasks = set (s .tasks) (slot .0) (t-is i); queues = queuesOf (s .queues); holders = s .current; micros = s .«system_ticks_us» })
+          meets-put v (slot .0) t-is (kept v) refl a-is (rw there (rw (sym read-is) (rw so (rw (sym core-is) (rw (lt-ltb core 64 held) refl)))))
 
     pub enqueue-again : {r : Reply} → isState (read .state) Ready ≡ true → r ≡ refusedBy s AlreadyReady → Meets (Enqueue slot) s r
     unfolding enqueue
     enqueue-again so is = meets-refused v AlreadyReady is (rw there (rw (sym read-is) (rw so refl)))
 
-    module _ (so : isState (read .state) Ready ≡ false) {n : ℕ} (code : IsBandCode (read .qos) n) (dq : BandQueue) {p : Pushed} (push : Push (getD (s .queues) n dq) slot p) where
+    module _ (so : isState (read .state) Ready ≡ false) {n : ℕ} (code : IsBandCode (read .qos) n) (dq : BandQueue) {p : Pushed}
+        (push : Push (getD (s .queues) n dq) slot p) where
       abbrev es : List ℕ
       es = queue (abs s) (read .qos)
 
@@ -154,13 +148,11 @@ module _ {s : QoSScheduler} (v : Valid s) {slot : Slot} (d : TaskControlBlock) (
       enqueue-full not-ok is = meets-refused v QueueFull is (rw there (rw (sym read-is) (rw so (rw (not-false (full es) (sym ok-is ∙ not-ok)) refl))))
 
       pub enqueue-done : {a : Answer} {t : TaskControlBlock} → p .ok ≡ true → t ≡ withState read Ready → a ≡ answered pick.None value.Nothing →
-          Meets (Enqueue slot) s (record { answer = a; state = record { tasks = set (s .tasks) (slot .0) t; queues = set (s .queues) n (p .queue); current = s .current; «system_ticks_us» = s .«system_ticks_us» } })
+          Meets (Enqueue slot) s (leaving s a (set (s .tasks) (slot .0) t) (set (s .queues) n (p .queue)) (s .current))
       unfolding enqueue abs
       enqueue-done ok t-is a-is =
           let test : full es ≡ false = not-true (full es) (sym ok-is ∙ ok) in
-          let back : Hold (set (s .queues) n (p .queue)) (withBand (queuesOf (s .queues)) (read .qos) (pushed (slot .0) es)) = pushed-back v (read .qos) (code .is) dq push in
-          meets v (done value.Nothing (enqueued (slot .0) (abs s))) (rw there (rw (sym read-is) (rw so (rw test refl)))) (back .whole) a-is
-          (rw (sym read-is) (λ i. record { tasks = set (s .tasks) (slot .0) (t-is i); queues = back .entries-are i; holders = s .current; micros = s .«system_ticks_us» }))
+          meets-put v (slot .0) t-is (pushed-back v (read .qos) (code .is) dq push) refl a-is (rw there (rw (sym read-is) (rw so (rw test refl))))
 
 -- ---- create
 
@@ -174,11 +166,11 @@ module _ {s : QoSScheduler} (v : Valid s) (free : ℕ) (so-far : free ≤ freeSl
   unfolding create
   create-full past is = meets-refused v TableFull is (rw (le-leb 64 (freeSlot (abs s)) (omega arith)) refl)
 
-  pub create-done : {tid : Tid} {qos : QoSClass} {context cr3 rsp0 : ℕ} {a : Answer} {t : TaskControlBlock} → free < 64 → (d : TaskControlBlock) → not (getD (s .tasks) free d .«in_use») ≡ true →
+  pub create-done : {tid : Tid} {qos : QoSClass} {context cr3 rsp0 : ℕ} {a : Answer} {t : TaskControlBlock} → free < 64 → (d : TaskControlBlock) →
+      not (getD (s .tasks) free d .«in_use») ≡ true →
       t ≡ created tid qos context cr3 rsp0 → a ≡ answered pick.None (value.Slot (slot.Some (record { 0 = free }))) →
-      Meets (Create tid qos context cr3 rsp0) s (record { answer = a; state = record { tasks = set (s .tasks) free t; queues = s .queues; current = s .current; «system_ticks_us» = s .«system_ticks_us» } })
+      Meets (Create tid qos context cr3 rsp0) s (leaving s a (set (s .tasks) free t) (s .queues) (s .current))
   unfolding create abs
-  create-done {tid} {qos} {context} {cr3} {rsp0} low d is t-is a-is =
+  create-done low d is t-is a-is =
       let found : freeSlot (abs s) ≡ free = search-found (λ (t : TaskControlBlock). not (t .«in_use»)) (s .tasks) free d so-far (omega (arith, slots s v)) is in
-      meets v (done (value.Slot (slot.Some (record { 0 = free }))) (withTask (abs s) free (created tid qos context cr3 rsp0))) (rw found (rw (lt-leb 64 free low) refl)) (v .whole) a-is
-      (λ i. record { tasks = set (s .tasks) free (t-is i); queues = queuesOf (s .queues); holders = s .current; micros = s .«system_ticks_us» })
+      meets-put v free t-is (kept v) refl a-is (rw found (rw (lt-leb 64 free low) refl))

@@ -14,10 +14,10 @@ use Rattle.scheduler.specs.declared.call.Call.the-variants.{Create, Affi
 use Rattle.scheduler.specs.declared.answer.Pick.{Pick}
 use Rattle.scheduler.specs.declared.answer.PickOption.{PickOption}
 use Rattle.scheduler.specs.declared.answer.PickOption.the-variants as pick
+use Rattle.scheduler.specs.Accepted.{Each}
 use Rattle.scheduler.specs.State.{State, task}
 use Rattle.scheduler.specs.Step.{step, run}
 use Rattle.scheduler.specs.Stretch.{Event, eventOf, events, Concern, changes, names, concern, breaksFor, breaks, isPick, picks, stretch, stretchOf}
-use Rattle.scheduler.specs.Demand3.{Each}
 use Rattle.scheduler.specs.Longest.{Breaking, blocks, terminates, sets-mask, names-forbidden, Ended, with-pick, before-break, with-list, butLast, Longest, Names, by-schedule, by-tick, by-yield, by-handoff, by-plan, Query, can-run, index-for, record-of, current, microseconds, held-by}
 
 -- ---- which calls break X's conditions

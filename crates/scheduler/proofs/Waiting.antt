@@ -15,10 +15,10 @@ use Rattle.scheduler.specs.declared.call.Call.{Call}
 use Rattle.scheduler.specs.declared.answer.PickOption.{PickOption}
 use Rattle.scheduler.specs.declared.answer.PickOption.the-variants as pick
 use Rattle.scheduler.specs.State.{State, newState, task, queue}
-use Rattle.scheduler.specs.Accepted.{Accepted}
+use Rattle.scheduler.specs.Accepted.{Accepted, Each}
 use Rattle.scheduler.specs.Step.{step, run}
 use Rattle.scheduler.specs.Stretch.{Event, eventOf, events, breaks, isPick, picks, stretch, stretchOf, othersIn, others, before, ahead}
-use Rattle.scheduler.specs.Demand3.{Each, SchedulePicks, NotBehind, Point, Claim}
+use Rattle.scheduler.specs.Demand3.{SchedulePicks, NotBehind, Point, Claim}
 use Rattle.scheduler.proofs.Calls.{new-accepted, call-invariant, run-invariant, carries}
 use Rattle.scheduler.proofs.Invariant.{Invariant, invariant-accepted, accepted-invariant, entry-once}
 use Rattle.scheduler.proofs.Lists.{sub-length, sub-count, before-cut}

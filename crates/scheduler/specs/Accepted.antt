@@ -16,6 +16,11 @@ use Rattle.records.specs.State.{isState}
 use Rattle.queue.specs.Rules.{count}
 use Rattle.scheduler.specs.State.{State, noneByte, bandOrder, task, queue, holder}
 
+-- what holds of each element of a list
+unfoldable pub Each : {A : Type 0} → (A → Type 0) → List A → Type 0
+Each P [] = Unit
+Each P (a ∷ rest) = P a × Each P rest
+
 -- how often a slot stands in the queues
 abbrev pub standings : State → ℕ → ℕ
 standings s slot = count slot (queue s UserInteractive) + (count slot (queue s RealTimeIO) + count slot (queue s Background))

@@ -13,14 +13,10 @@ use Rattle.scheduler.specs.declared.call.Call.the-variants.{Schedule}
 use Rattle.scheduler.specs.declared.answer.Pick.{Pick}
 use Rattle.scheduler.specs.declared.answer.PickOption.the-variants as pick
 use Rattle.scheduler.specs.State.{State, task, queue}
+use Rattle.scheduler.specs.Accepted.{Each}
 use Rattle.scheduler.specs.Step.{step, run}
 use Rattle.scheduler.specs.Took.{Carries}
 use Rattle.scheduler.specs.Stretch.{Event, others, ahead, stretchOf}
-
--- what holds of each element of a list
-unfoldable pub Each : {A : Type 0} → (A → Type 0) → List A → Type 0
-Each P [] = Unit
-Each P (a ∷ rest) = P a × Each P rest
 
 -- a schedule on a core below 64 picks
 abbrev pub SchedulePicks : Event → Type 0

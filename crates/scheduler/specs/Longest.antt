@@ -9,9 +9,9 @@ use Rattle.records.specs.declared.ids.Tid.{Tid}
 use Rattle.records.specs.Mask.{permits}
 use Rattle.scheduler.specs.declared.call.Call.{Call}
 use Rattle.scheduler.specs.declared.call.Call.the-variants.{Affinity, Terminate, Block, Schedule, Tick, Yield, Handoff, Plan, CanRunOnCore, TaskIndexForTid, Task, CurrentTaskOnCpu, SystemTicksUs, Holder}
+use Rattle.scheduler.specs.Accepted.{Each}
 use Rattle.scheduler.specs.State.{task}
 use Rattle.scheduler.specs.Stretch.{Event}
-use Rattle.scheduler.specs.Demand3.{Each}
 
 -- "names a core": the five calls that have one
 pub data Names (c : ℕ) : Call → Type 0 where

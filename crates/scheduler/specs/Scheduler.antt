@@ -10,15 +10,16 @@ use Rattle.queue.specs.Stored.{entries, WellFormed}
 use Rattle.scheduler.specs.declared.call.Call.{Call}
 use Rattle.scheduler.specs.declared.scheduler.QoSScheduler.{QoSScheduler}
 use Rattle.scheduler.specs.declared.scheduler.Reply.{Reply}
+use Rattle.scheduler.specs.declared.answer.ContextSwitchTarget.{ContextSwitchTarget}
 use Rattle.scheduler.specs.declared.answer.PickOption.the-variants as pick
+use Rattle.scheduler.specs.declared.answer.PlanOption.the-variants as plan
 use Rattle.scheduler.specs.declared.answer.Value.{Value}
 use Rattle.scheduler.specs.declared.answer.Value.the-variants as value
 use Rattle.scheduler.specs.State.{State, Queues, newState, holderOf}
 use Rattle.scheduler.specs.Outcome.{answered, refusal}
-use Rattle.scheduler.specs.Accepted.{Accepted}
+use Rattle.scheduler.specs.Accepted.{Accepted, Each}
 use Rattle.scheduler.specs.Ticking.{planOf}
 use Rattle.scheduler.specs.Step.{step}
-use Rattle.scheduler.specs.Demand3.{Each}
 
 -- "three queues, one a band, held together as one array": a band's queue stands at the band's code
 unfoldable pub queuesOf : List BandQueue → Queues
@@ -62,6 +63,10 @@ toldBy s v = record { answer = answered pick.None v; state = s }
 -- refused: nothing is changed
 abbrev pub refusedBy : QoSScheduler → SchedError → Reply
 refusedBy s e = record { answer = refusal e; state = s }
+
+-- a plan to switch, as an answer's value
+abbrev pub switchTo : SlotOption → ContextSwitchTarget → Value
+switchTo previous target = value.Plan (plan.Some (record { «prev_task_idx» = previous; target = target }))
 
 -- a reply told as a plan, from the previous holder to the one that the core has now
 abbrev pub planFrom : SlotOption → ℕ → Reply → Reply

@@ -1,4 +1,4 @@
-// Picking: rule P, which schedule is and to which tick, yield and handoff come.
+// Picking: rule P. Schedule is P alone; tick, yield, handoff and plan come to it.
 ghost use Rattle.scheduler.specs.Scheduler.{Valid, Meets};
 use crate::answer::Answer;
 use crate::answer::Value;
@@ -20,8 +20,9 @@ impl QoSScheduler {
         self.schedule_on_cpu(0)
     }
 
-    // The first entry of the first band that may use the core leaves its queue, those before it going to the tail, and
-    // becomes the core's holder with a whole slice before it. Where no entry may use the core, the core has no holder.
+    // The first entry that may use the core, bands in their order, leaves its queue, those before it going to the tail,
+    // and becomes the core's holder with a whole slice before it. Where no entry may use the core, the core has no
+    // holder. A core of 64 and above is answered by none, and nothing changes.
     pub fn schedule_on_cpu(mut self, core: usize) -> Reply
         requires { ⌜ Valid self ⌝ }
         ensures { λ r. ⌜ Meets (Call.Schedule core) self r ⌝ }

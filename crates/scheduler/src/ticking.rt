@@ -1,7 +1,6 @@
 // Tick, yield, handoff and plan.
-ghost use Rattle.scheduler.specs.Scheduler.{Valid, Meets, abs, planFrom};
-ghost use Rattle.scheduler.specs.State.{holderOf};
-ghost use Rattle.scheduler.specs.Ticking.{waitsBefore, targetOf, same};
+ghost use Rattle.scheduler.specs.Scheduler.{Valid, Meets, abs, switchTo, planFrom};
+ghost use Rattle.scheduler.specs.Ticking.{waitsBefore, same};
 ghost use mathlib.Core.Path.{_≡_};
 ghost use Prim.Native.Nat.{_<_};
 use crate::answer::Answer;
@@ -33,7 +32,7 @@ impl QoSScheduler {
 
     // The core's timer. Time goes by; the core's holder is charged for it unless it is Blocked. A holder whose slice is
     // over, or for whom a task of an earlier band waits that may use the core, goes back to its queue. Answered by who
-    // is to run on the core.
+    // is to run on the core; for a core of 64 and above by none, and nothing changes.
     pub fn on_timer_tick_on_cpu(mut self, core: usize, elapsed_us: u32) -> Reply
         requires { ⌜ Valid self ⌝ }
         ensures { λ r. ⌜ Meets (Call.Tick core «elapsed_us») self r ⌝ }
@@ -67,6 +66,7 @@ impl QoSScheduler {
             return self.schedule_on_cpu(core);
         }
         let band = qos.code() as usize;
+        // There is room: 64 entries would be 64 Ready slots, and this one is not Ready.
         let pushed = self.queues[band].push(slot);
         let queue = pushed.queue;
         self.queues[band] = queue;
@@ -104,7 +104,7 @@ impl QoSScheduler {
     }
 
     // The core's Running holder goes to the tail of its band, then a pick; a core without a holder only picks. No time
-    // is charged.
+    // is charged. Refused for a core of 64 and above, and where the holder is not Running.
     pub fn plan_voluntary_yield_on_cpu(mut self, core: usize) -> Reply
         requires { ⌜ Valid self ⌝ }
         ensures { λ r. ⌜ Meets (Call.Yield core) self r ⌝ }
@@ -124,6 +124,7 @@ impl QoSScheduler {
         }
         let qos = task.qos;
         let band = qos.code() as usize;
+        // There is room, as in a tick.
         let pushed = self.queues[band].push(slot);
         let queue = pushed.queue;
         self.queues[band] = queue;
@@ -133,6 +134,7 @@ impl QoSScheduler {
     }
 
     // A pick in place of the core's Blocked holder. A Running holder, woken before the handoff came, goes on: no plan.
+    // Refused for a core of 64 and above or without a holder, and where the holder is Ready.
     pub fn plan_blocked_current_handoff_on_cpu(mut self, core: usize) -> Reply
         requires { ⌜ Valid self ⌝ }
         ensures { λ r. ⌜ Meets (Call.Handoff core) self r ⌝ }
@@ -166,7 +168,7 @@ impl QoSScheduler {
         self.plan_context_switch_on_cpu(0, elapsed_us)
     }
 
-    // A tick, answered as a plan.
+    // A tick, answered as a plan; no plan for a core of 64 and above.
     pub fn plan_context_switch_on_cpu(self, core: usize, elapsed_us: u32) -> Reply
         requires { ⌜ Valid self ⌝ }
         ensures { λ r. ⌜ Meets (Call.Plan core «elapsed_us») self r ⌝ }
@@ -176,25 +178,6 @@ impl QoSScheduler {
         }
         let previous = holder_of(self.current[core]);
         plan_from(previous, core, self.on_timer_tick_on_cpu(core, elapsed_us))
-    }
-
-    // Whom the core is to run: its holder, with its cr3, or nobody.
-    fn target_on(self, core: usize) -> ContextSwitchTarget
-        requires { ⌜ Valid self × (core < 64) ⌝ }
-        ensures { λ r. ⌜ r ≡ targetOf (holderOf (abs self) core) (abs self) ⌝ }
-    {
-        let holder = holder_of(self.current[core]);
-        match holder {
-            SlotOption::None => ContextSwitchTarget::Idle,
-            SlotOption::Some(slot) => {
-                let index = slot.0;
-                let task = self.tasks[index];
-                ContextSwitchTarget::Task {
-                    task_idx: slot,
-                    cr3: task.cr3,
-                }
-            }
-        }
     }
 }
 
@@ -213,14 +196,34 @@ fn plan_from(previous: SlotOption, core: usize, reply: Reply) -> Reply
             state,
         };
     }
-    let plan = ContextSwitchPlan {
-        prev_task_idx: previous,
-        target: state.target_on(core),
-    };
-    Reply {
-        answer: Answer::done(pick, Value::Plan(PlanOption::Some(plan))),
-        state,
+    match next {
+        SlotOption::None => Reply {
+            answer: Answer::done(pick, switch(previous, ContextSwitchTarget::Idle)),
+            state,
+        },
+        SlotOption::Some(slot) => {
+            let index = slot.0;
+            let task = state.tasks[index];
+            let target = ContextSwitchTarget::Task {
+                task_idx: slot,
+                cr3: task.cr3,
+            };
+            Reply {
+                answer: Answer::done(pick, switch(previous, target)),
+                state,
+            }
+        }
     }
+}
+
+// A plan to switch, as an answer's value.
+fn switch(previous: SlotOption, target: ContextSwitchTarget) -> Value
+    ensures { λ r. ⌜ r ≡ switchTo previous target ⌝ }
+{
+    Value::Plan(PlanOption::Some(ContextSwitchPlan {
+        prev_task_idx: previous,
+        target,
+    }))
 }
 
 // Whether both are the same slot, or both none.

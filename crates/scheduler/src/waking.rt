@@ -63,7 +63,8 @@ impl QoSScheduler {
         self.refused(SchedError::TableFull)
     }
 
-    // The cores that the slot's task may use, of which 0 means all. Free slots have a mask too.
+    // The cores that the slot's task may use; mask 0 is stored as all ones. Free slots have a mask too. Refused for a slot
+    // of 64 and above.
     pub fn set_task_affinity(mut self, slot: Slot, mask: u64) -> Reply
         requires { ⌜ Valid self ⌝ }
         ensures { λ r. ⌜ Meets (Call.Affinity slot mask) self r ⌝ }
@@ -80,7 +81,8 @@ impl QoSScheduler {
         }
     }
 
-    // The slot is free again, out of every queue, and held by no core.
+    // The slot is free again, out of every queue, and held by no core; a slot that is free already may be named. Refused
+    // for a slot of 64 and above.
     pub fn terminate_task(mut self, slot: Slot) -> Reply
         requires { ⌜ Valid self ⌝ }
         ensures { λ r. ⌜ Meets (Call.Terminate slot) self r ⌝ }
@@ -100,7 +102,8 @@ impl QoSScheduler {
     }
 
     // Out of its queue and Blocked. A core that holds it goes on holding it until its next pick; a wake before that
-    // makes the task Running again in its place.
+    // makes the task Running again in its place. Refused for a slot that is free or no slot of the table, and for a task
+    // that is Blocked.
     pub fn block_task(mut self, slot: Slot) -> Reply
         requires { ⌜ Valid self ⌝ }
         ensures { λ r. ⌜ Meets (Call.Block slot) self r ⌝ }
@@ -125,7 +128,8 @@ impl QoSScheduler {
         }
     }
 
-    // A Blocked task that some core still holds is Running again, with no queue entry; any other is enqueued.
+    // A Blocked task that some core still holds is Running again, with no queue entry; any other is enqueued. Refused for
+    // a slot that is free or no slot of the table, and for a task that is not Blocked.
     pub fn wake_task(mut self, slot: Slot) -> Reply
         requires { ⌜ Valid self ⌝ }
         ensures { λ r. ⌜ Meets (Call.Wake slot) self r ⌝ }
@@ -153,6 +157,7 @@ impl QoSScheduler {
     }
 
     // A Blocked or Running task goes to the tail of its band and becomes Ready; a core that holds it goes on doing so.
+    // Refused for a slot that is free or no slot of the table, for a task that is Ready, and by a full queue.
     pub fn enqueue_ready(mut self, slot: Slot) -> Reply
         requires { ⌜ Valid self ⌝ }
         ensures { λ r. ⌜ Meets (Call.Enqueue slot) self r ⌝ }
