@@ -65,13 +65,3 @@ length-without slot (e ∷ es) =
     split (λ (b : Bool). length (cond b (without slot es) (e ∷ without slot es)) + (cond b 1 0 + count slot es) ≡ suc (length es)) (eqb e slot)
     (λ _. omega (arith, length-without slot es))
     (λ _. omega (arith, length-without slot es))
-
--- what is not there is not missed
-pub without-none : (slot : ℕ) (es : List ℕ) → count slot es ≡ 0 → without slot es ≡ es
-unfolding count without
-without-none slot [] none = refl
-without-none slot (e ∷ es) none =
-    split (λ (b : Bool). cond b 1 0 + count slot es ≡ 0 → cond b (without slot es) (e ∷ without slot es) ≡ e ∷ es) (eqb e slot)
-    (λ _ z. absurd (omega arith))
-    (λ _ z. ap (λ (l : List ℕ). e ∷ l) (without-none slot es (omega arith)))
-    none

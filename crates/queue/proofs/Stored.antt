@@ -1,5 +1,5 @@
--- What every stored queue keeps to, and that every list of at most 64 entries is stored by some queue: it stands at the front of the ring, and
--- zeros fill the places behind it. Assumes nothing.
+-- Every list of at most 64 entries is stored by some queue: it stands at the front of the ring, and zeros fill the places behind it. Assumes
+-- nothing.
 use mathlib.Core.Path.{_≡_, ap, _∙_}
 use mathlib.Core.List.{List, _++_}
 use Prim.Native.Nat.{ℕ, _+_, _-_, _%_, _≤_, _<_}
@@ -7,14 +7,8 @@ use native.Mathlib.Omega.{arith}
 use lib.ListN.{length, getD, replicate, length-append, length-replicate, List·getD-append}
 use lib.Seq.{ext-getD}
 use Rattle.queue.specs.declared.BandQueue.{BandQueue}
-use Rattle.queue.specs.Stored.{window, entries, WellFormed, Holds}
-use Rattle.queue.proofs.Places.{length-entries}
+use Rattle.queue.specs.Stored.{window, entries, Holds}
 use Rattle.queue.proofs.Ring.{length-window, window-at}
-
-pub entries-bounded : (q : BandQueue) → WellFormed q → length (entries q) ≤ 64
-entries-bounded q good = omega (arith, length-entries q)
-
--- ---- every list of at most 64 entries is stored
 
 -- what stands at the front of a list is the window there
 window-front-part : (es pad : List ℕ) → length es ≤ 64 → window (es ++ pad) 0 (length es) ≡ es

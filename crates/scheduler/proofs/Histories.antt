@@ -1,7 +1,8 @@
 -- Demands 2 and 3 on the code: every history from a valid scheduler is as `CodeClaim` says, by the contracts of its calls and by demand 3 on
--- the rules. Every accepted state is held by some valid scheduler, so there is a new one, and every list of calls has a history. Assumes nothing.
+-- the rules. Every accepted state, its numbers of any size, is held by some valid scheduler, so there is a new one, and every list of calls has
+-- a history. Assumes nothing.
 use mathlib.Core.Path.{_≡_, refl, sym, ap, _∙_, subst}
-use mathlib.Core.List.{List, [], _∷_, _++_}
+use mathlib.Core.List.{List, [], _∷_, _++_, map}
 use Prim.Native.Nat.{ℕ}
 use Rattle.records.specs.declared.band.QoSClass.{QoSClass}
 use Rattle.records.specs.declared.band.QoSClass.the-variants.{UserInteractive, RealTimeIO, Background}
@@ -15,7 +16,7 @@ use Rattle.scheduler.specs.State.{State, newState, queue}
 use Rattle.scheduler.specs.Accepted.{Accepted, Each}
 use Rattle.scheduler.specs.Step.{step, run}
 use Rattle.scheduler.specs.Took.{Carries}
-use Rattle.scheduler.specs.Stretch.{events, breaks, picks}
+use Rattle.scheduler.specs.Stretch.{Event, events, breaks, picks}
 use Rattle.scheduler.specs.Demand3.{Point}
 use Rattle.scheduler.specs.Longest.{Longest}
 use Rattle.scheduler.specs.Scheduler.{queuesOf, abs, Valid, IsNew, Meets}
@@ -62,6 +63,12 @@ happened-is s (a ∷ rest) h =
     let later : happened (a .reply .state) rest ≡ events (callsOf rest) (step (a .call) (abs s) .state) =
     happened-is (a .reply .state) rest (h .1) ∙ ap (events (callsOf rest)) (h .0 .state-is) in
     λ i. record { call = a .call; found = abs s; answer = h .0 .answer-is i } ∷ later i
+
+-- one event for each call, in their order
+pub happened-calls : (s : QoSScheduler) (made : List Made) → map (λ (e : Event). e .call) (happened s made) ≡ callsOf made
+unfolding happened
+happened-calls s [] = refl
+happened-calls s (a ∷ rest) = ap (λ (l : List Call). a .call ∷ l) (happened-calls (a .reply .state) rest)
 
 outcome-is : {call : Call} {s : QoSScheduler} {r : Reply} → Meets call s r → outcomeOf r ≡ step call (abs s)
 outcome-is m = λ i. record { answer = m .answer-is i; state = m .state-is i }

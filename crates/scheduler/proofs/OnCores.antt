@@ -1,4 +1,5 @@
--- The calls on cores meet their contract: a law for each way out of the code. Assumes nothing.
+-- Schedule and the tick's test for earlier bands meet their contract: going through the stored queues, and a law for each way out of the code.
+-- Assumes nothing.
 use mathlib.Core.Path.{_≡_, refl, sym, ap, _∙_, subst}
 use mathlib.Core.Bool.{Bool, true, false}
 use mathlib.Core.List.{List}

@@ -31,10 +31,10 @@ use Rattle.scheduler.specs.declared.answer.Value.the-variants as value
 use Rattle.scheduler.specs.declared.call.Call.the-variants.{Create, Affinity, Terminate, Block, Wake, Enqueue}
 use Rattle.scheduler.specs.declared.scheduler.QoSScheduler.{QoSScheduler}
 use Rattle.scheduler.specs.declared.scheduler.Reply.{Reply}
-use Rattle.scheduler.specs.State.{firstPlace, task, queue, withBand, eachQueue, withTask}
+use Rattle.scheduler.specs.State.{firstPlace, task, queue, eachQueue}
 use Rattle.scheduler.specs.Outcome.{answered, done}
 use Rattle.scheduler.specs.Scheduler.{queuesOf, abs, Valid, Meets, Hold, refusedBy}
-use Rattle.scheduler.specs.Waking.{freeSlot, create, released, affinity, outOfHolders, terminate, missing, outOfQueues, block, wake, enqueued, enqueue}
+use Rattle.scheduler.specs.Waking.{freeSlot, create, released, affinity, terminate, missing, block, wake, enqueue}
 use Rattle.scheduler.proofs.Promises.{leaving, meets-put, kept, meets-refused, meets-as}
 use Rattle.scheduler.proofs.Stored.{slots, record-at, queue-at, pushed-back}
 use Rattle.scheduler.proofs.Searches.{search-on, search-found}

@@ -1,7 +1,7 @@
 -- Demand 3 on the rules: what is claimed of every list of calls, at every point, for every slot that is Ready there. The customer's sentences
 -- stand beside the fields.
 use mathlib.Core.Path.{_≡_}
-use mathlib.Core.List.{List, [], _∷_, _++_, Sublistᴰ}
+use mathlib.Core.List.{List, _∷_, _++_, Sublistᴰ}
 use Prim.Native.Nat.{ℕ, _≤_, _<_}
 use lib.ListN.{length}
 use Rattle.records.specs.declared.band.QoSClass.{QoSClass}

@@ -24,16 +24,17 @@ answered p v = record { status = Done; pick = p; value = v }
 
 -- done, and the slot that was picked is who is to run
 abbrev pub chosenAnswer : Slot → QoSClass → Answer
-chosenAnswer s band = answered (pick.Some (record { slot = s; band = band })) (value.Slot (slot.Some s))
+chosenAnswer e band = answered (pick.Some (record { slot = e; band = band })) (value.Slot (slot.Some e))
 
 -- done, and nobody was picked
 abbrev pub done : Value → State → Outcome
 done v s = record { answer = answered pick.None v; state = s }
 
--- refused: no pick, no value, the state as it was
+-- refused: no pick and no value
 abbrev pub refusal : SchedError → Answer
 refusal e = record { status = Refused e; pick = pick.None; value = value.Nothing }
 
+-- and the state as it was
 abbrev pub refused : SchedError → State → Outcome
 refused e s = record { answer = refusal e; state = s }
 

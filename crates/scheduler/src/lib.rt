@@ -1,14 +1,17 @@
 // The scheduler of document 01: who runs on which core, and for how long.
 //
-//   call      Call: every call and query, with its arguments
-//   answer    Answer: status, the pick made, and the value; plans and what may be missing
-//   scheduler QoSScheduler: the state, by value; new; apply, which does any call
-//   waking    create, affinity, terminate, block, wake, enqueue
-//   picking   schedule
-//   ticking   tick, yield, handoff, plan
-//   queries   what changes nothing
+//   call        Call: every call and query, with its arguments
+//   answer      Answer: status, the pick made, and the value; plans and what may be missing
+//   scheduler   QoSScheduler: the state, by value; new; apply, which does any call
+//   waking      create, affinity, terminate, block, wake, enqueue
+//   picking     schedule
+//   ticking     tick, yield, handoff, plan
+//   queries     what changes nothing
 //
-// specs/ has document 01's rules as definitions over these types; proofs/ has the laws that hold for all of them.
+// Every call presumes only `Valid`: the scheduler came from `new` or an earlier call. It answers for all arguments, and
+// ensures `Meets`: the whole answer and the whole state are what document 01's rule for it makes, and the scheduler that
+// it gives back is valid again. specs/ has the rules as definitions over these types; proofs/ has the laws that hold for
+// all of them.
 mod answer;
 mod call;
 mod picking;

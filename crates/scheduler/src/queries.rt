@@ -90,7 +90,7 @@ impl QoSScheduler {
         self.system_ticks_us
     }
 
-    // The lowest core that holds the slot.
+    // The lowest core that holds the slot; None where no core does, and for a slot of 64 and above.
     pub fn holder(self, slot: Slot) -> CoreOption
         requires { ⌜ Valid self ⌝ }
         ensures { λ r. ⌜ r ≡ coreOf (slot .0) (abs self) ⌝ }

@@ -25,6 +25,7 @@ pub struct QoSScheduler {
     pub(crate) queues: [BandQueue; BAND_COUNT],
     // The slot that each core holds, or NO_HOLDER.
     pub(crate) current: [u8; MAX_CPUS],
+    // The time that ticks have reported, going on from 0 past the largest.
     pub(crate) system_ticks_us: u64,
 }
 
