@@ -34,7 +34,7 @@ use Rattle.scheduler.specs.Ticking.{waitsBefore}
 use Rattle.scheduler.specs.Scheduler.{queuesOf, abs, Valid, Meets, Hold, toldBy}
 use Rattle.scheduler.proofs.Invariant.{ready-in-table}
 use Rattle.scheduler.proofs.Picks.{P-past, P-below}
-use Rattle.scheduler.proofs.Promises.{meets, meets-told}
+use Rattle.scheduler.proofs.Promises.{leaving, meets, meets-told}
 use Rattle.scheduler.proofs.Seeking.{Seeking, seeking-band, seeking-place, found-place, found-first, before, chosen, none-chosen, waits-found, waits-none}
 use Rattle.scheduler.proofs.Stored.{record-at, band-at, queue-at, queue-back}
 
@@ -85,15 +85,17 @@ module _ {s : QoSScheduler} (v : Valid s) {core band place : ℕ} (k : Seeking (
       pub schedule-picked : {a : Answer} {u : TaskControlBlock} {taken : Taken} → core < 64 → t ≡ true → Take (getD (s .queues) band dq) place taken →
           u ≡ picked (getD (s .tasks) (e .0) d) →
           a ≡ chosenAnswer e (getD (s .tasks) (e .0) d .qos) →
-          Meets (Schedule core) s (record { answer = a; state = record { tasks = set (s .tasks) (e .0) u; queues = set (s .queues) band (taken .queue); current = set (s .current) core (e .0); «system_ticks_us» = s .«system_ticks_us» } })
+          Meets (Schedule core) s (leaving s a (set (s .tasks) (e .0) u) (set (s .queues) band (taken .queue)) (set (s .current) core (e .0)))
       unfolding schedule abs
       schedule-picked {a} {u} {taken} below passes take u-is a-is =
           let first : choice (abs s) core bandOrder ≡ pick.Some (record { slot = e; band = b }) = chosen (abs s) core k b is e (sym entry-is ∙ some) (may ∙ passes) in
           let read-so : getD (s .tasks) (e .0) d ≡ task (abs s) (e .0) = record-at s v (e .0) d entry-low in
           let of-band : getD (s .tasks) (e .0) d .qos ≡ b = ap (λ (r : TaskControlBlock). r .qos) read-so ∙ ready .of-band in
           let back : Hold (set (s .queues) band (taken .queue)) (withBand (queuesOf (s .queues)) b (takenAt (placeFor (abs s) core b) (queue (abs s) b))) =
-          queue-back v b is dq (rw (found-place (abs s) core k b is e (sym entry-is ∙ some) (may ∙ passes)) (subst (λ (l : List ℕ). Holds (taken .queue) (takenAt place l)) (queue-at v b is dq) (take .queue-is))) in
-          meets v (answerSlot (afterPick (abs s) core (pick.Some (record { slot = e; band = b })))) (ap answerSlot (P-below (abs s) core below ∙ ap (afterPick (abs s) core) first)) (back .whole)
+          queue-back v b is dq (rw (found-place (abs s) core k b is e (sym entry-is ∙ some) (may ∙ passes))
+          (subst (λ (l : List ℕ). Holds (taken .queue) (takenAt place l)) (queue-at v b is dq) (take .queue-is))) in
+          meets v (answerSlot (afterPick (abs s) core (pick.Some (record { slot = e; band = b }))))
+          (ap answerSlot (P-below (abs s) core below ∙ ap (afterPick (abs s) core) first)) (back .whole)
           (a-is ∙ ap (chosenAnswer e) of-band)
           (λ i. record {
             tasks = set (s .tasks) (e .0) ((u-is ∙ ap picked read-so) i);
@@ -115,7 +117,8 @@ module _ {s : QoSScheduler} (v : Valid s) {core : ℕ} where
   unfolding schedule abs
   schedule-none below k past is =
       subst (Meets (Schedule core) s) (sym is)
-      (meets v (answerSlot (afterPick (abs s) core pick.None)) (ap answerSlot (P-below (abs s) core below ∙ ap (afterPick (abs s) core) (none-chosen (abs s) core k past))) (v .whole) refl refl)
+      (meets v (answerSlot (afterPick (abs s) core pick.None))
+      (ap answerSlot (P-below (abs s) core below ∙ ap (afterPick (abs s) core) (none-chosen (abs s) core k past))) (v .whole) refl refl)
 
 -- ---- the tick's test
 

@@ -83,7 +83,8 @@ ticked-runs s k core elapsed low =
 
 module _ {call : Call} {s : QoSScheduler} (previous : SlotOption) (core : ℕ) (reply : Reply) {r : Reply} (told : r ≡ planFrom previous core reply) where
   -- what was chosen, as the rules put it
-  planned-as : (c : Chosen) → Valid (reply .state) → reply .answer .pick ≡ c .pick → abs (reply .state) ≡ c .state → Runs core c → step call (abs s) ≡ answerPlan previous c → Meets call s r
+  planned-as : (c : Chosen) → Valid (reply .state) → reply .answer .pick ≡ c .pick → abs (reply .state) ≡ c .state → Runs core c →
+      step call (abs s) ≡ answerPlan previous c → Meets call s r
   planned-as c valid pick-is state-is runs by = subst (Meets call s) (sym told) (record {
     valid = valid;
     answer-is =
@@ -162,9 +163,11 @@ module _ {s : QoSScheduler} (v : Valid s) {core : ℕ} (low : core < 64) (d : �
       pub handoff-running : {r : Reply} → read .state ≡ Running → r ≡ toldBy s (value.Plan plan.None) → Meets (Handoff core) s r
       handoff-running so is = meets-told v (value.Plan plan.None) is (handoff-by Running so)
 
-      pub handoff-blocked : {reply r : Reply} → read .state ≡ Blocked → Meets (Schedule core) (let-go s core) reply → r ≡ planFrom (slot.Some h) core reply → Meets (Handoff core) s r
+      pub handoff-blocked : {reply r : Reply} → read .state ≡ Blocked → Meets (Schedule core) (let-go s core) reply →
+          r ≡ planFrom (slot.Some h) core reply → Meets (Handoff core) s r
       handoff-blocked {reply} so met told =
-          planned-pick (slot.Some h) core reply told (let-go-valid v low) low met (handoff-by Blocked so ∙ ap (λ (t : State). answerPlan (slot.Some h) (ruleP core t)) (sym (let-go-is s core)))
+          planned-pick (slot.Some h) core reply told (let-go-valid v low) low met
+          (handoff-by Blocked so ∙ ap (λ (t : State). answerPlan (slot.Some h) (ruleP core t)) (sym (let-go-is s core)))
 
       pub handoff-ready : {r : Reply} → read .state ≡ Ready → r ≡ refusedBy s NotBlocked → Meets (Handoff core) s r
       handoff-ready so is = meets-refused v NotBlocked is (handoff-by Ready so)
@@ -207,7 +210,9 @@ module _ {s : QoSScheduler} (v : Valid s) {core : ℕ} (low : core < 64) (d : �
         }
 
         yields-to : yield core (abs s) ≡ answerPlan (slot.Some h) (ruleP core (abs sent-back))
-        yields-to = yield-by ∙ rw runs (rw (enqueue-done (abs s) (known v) (h .0) (holder-below v low d read-holder some) (holder-may v low d read-holder some .used) idle) (ap (λ (t : State). answerPlan (slot.Some h) (ruleP core t)) (sym sent-back-is)))
+        yields-to =
+            let queues-it = enqueue-done (abs s) (known v) (h .0) (holder-below v low d read-holder some) (holder-may v low d read-holder some .used) idle in
+            yield-by ∙ rw runs (rw queues-it (ap (λ (t : State). answerPlan (slot.Some h) (ruleP core t)) (sym sent-back-is)))
 
         pub yield-running : {reply r : Reply} → Meets (Schedule core) sent-back reply → r ≡ planFrom (slot.Some h) core reply → Meets (Yield core) s r
         yield-running {reply} met told = planned-pick (slot.Some h) core reply told sent-back-valid low met yields-to

@@ -67,15 +67,18 @@ tick-past v {core} past is = meets-told v (value.Slot slot.None) is (rw (le-leb 
 -- ---- a core below 64: time goes by first
 
 module _ {s : QoSScheduler} (v : Valid s) {core micros : ℕ} (elapsed : ℕ) (low : core < 64) (gained : micros ≡ (s .«system_ticks_us» + elapsed) % 2 ^ 64) where
+  abbrev now : State
+  now = gain elapsed (abs s)
+
   abbrev later : QoSScheduler
   later = record { tasks = s .tasks; queues = s .queues; current = s .current; «system_ticks_us» = micros }
 
-  later-is : abs later ≡ gain elapsed (abs s)
+  later-is : abs later ≡ now
   unfolding abs
   later-is = λ i. record { tasks = s .tasks; queues = queuesOf (s .queues); holders = s .current; micros = gained i }
 
-  gone-by : Harmless (λ (x : ℕ). ⊥) (abs s) (gain elapsed (abs s))
-  gone-by = time (abs s) (known v) (gain elapsed (abs s) .micros)
+  gone-by : Harmless (λ (x : ℕ). ⊥) (abs s) now
+  gone-by = time (abs s) (known v) (now .micros)
 
   pub later-valid : Valid later
   later-valid = record { whole = v .whole; accepted = subst Accepted (sym later-is) (harmless-accepted gone-by) }
@@ -103,52 +106,55 @@ module _ {s : QoSScheduler} (v : Valid s) {core micros : ℕ} (elapsed : ℕ) (l
           awake = rw (sym read-is) so
 
           -- what the tick comes to, by its test
-          comes-to : (b : Bool) → sliceOver (h .0) elapsed core (gain elapsed (abs s)) ≡ b →
-              tick core elapsed (abs s) ≡ answerSlot (cond b (ruleP core (requeued (h .0) (gain elapsed (abs s)))) (staysHolder h elapsed (gain elapsed (abs s))))
+          comes-to : (b : Bool) → sliceOver (h .0) elapsed core now ≡ b →
+              tick core elapsed (abs s) ≡ answerSlot (cond b (ruleP core (requeued (h .0) now)) (staysHolder h elapsed now))
           unfolding tick ticked
           comes-to b test = rw (lt-leb 64 core low) (rw (held v low d read-holder ∙ some) (rw awake (rw test refl)))
 
           -- the test, on what was read
-          waits-so : {b : Bool} → waitsBefore (read .qos) (abs later) core ≡ b → waitsBefore (task (abs s) (h .0) .qos) (gain elapsed (abs s)) core ≡ b
+          waits-so : {b : Bool} → waitsBefore (read .qos) (abs later) core ≡ b → waitsBefore (task (abs s) (h .0) .qos) now core ≡ b
           waits-so e = (λ i. waitsBefore (sym read-is i .qos) (sym later-is i) core) ∙ e
 
           goes-on : read .«consumed_slice_us» + elapsed < read .«slice_budget_us» → waitsBefore (read .qos) (abs later) core ≡ false →
-              sliceOver (h .0) elapsed core (gain elapsed (abs s)) ≡ false
+              sliceOver (h .0) elapsed core now ≡ false
           goes-on short nobody = rw (waits-so nobody) (rw (sym read-is) (rw (lt-leb (read .«slice_budget_us») (read .«consumed_slice_us» + elapsed) short) refl))
 
-          used-up : read .«slice_budget_us» ≤ read .«consumed_slice_us» + elapsed → sliceOver (h .0) elapsed core (gain elapsed (abs s)) ≡ true
+          used-up : read .«slice_budget_us» ≤ read .«consumed_slice_us» + elapsed → sliceOver (h .0) elapsed core now ≡ true
           used-up past = rw (sym read-is) (rw (le-leb (read .«slice_budget_us») (read .«consumed_slice_us» + elapsed) past) refl)
 
-          gives-way : waitsBefore (read .qos) (abs later) core ≡ true → sliceOver (h .0) elapsed core (gain elapsed (abs s)) ≡ true
+          gives-way : waitsBefore (read .qos) (abs later) core ≡ true → sliceOver (h .0) elapsed core now ≡ true
           gives-way waits = rw (waits-so waits) (or-true (leb (task (abs s) (h .0) .«slice_budget_us») (task (abs s) (h .0) .«consumed_slice_us» + elapsed)))
+
+          abbrev charge : TaskControlBlock → TaskControlBlock
+          charge t = withConsumed t (t .«consumed_slice_us» + elapsed)
 
           -- the slice goes on
           pub tick-stays : {a : Answer} {u : TaskControlBlock} → read .«consumed_slice_us» + elapsed < read .«slice_budget_us» →
-              waitsBefore (read .qos) (abs later) core ≡ false → u ≡ withConsumed read (read .«consumed_slice_us» + elapsed) →
+              waitsBefore (read .qos) (abs later) core ≡ false → u ≡ charge read →
               a ≡ answered pick.None (value.Slot (slot.Some h)) →
               Meets (Tick core elapsed) s (record { answer = a; state = record { tasks = set (s .tasks) (h .0) u; queues = s .queues; current = s .current; «system_ticks_us» = micros } })
           unfolding abs
           tick-stays short nobody u-is a-is =
-              let over : sliceOver (h .0) elapsed core (gain elapsed (abs s)) ≡ false = goes-on short nobody in
-              meets v (answerSlot (staysHolder h elapsed (gain elapsed (abs s)))) (comes-to false over) (v .whole) a-is
-              (λ i. record { tasks = set (s .tasks) (h .0) ((u-is ∙ ap (λ (t : TaskControlBlock). withConsumed t (t .«consumed_slice_us» + elapsed)) read-is) i); queues = queuesOf (s .queues); holders = s .current; micros = gained i })
+              let over : sliceOver (h .0) elapsed core now ≡ false = goes-on short nobody in
+              meets v (answerSlot (staysHolder h elapsed now)) (comes-to false over) (v .whole) a-is
+              (λ i. record { tasks = set (s .tasks) (h .0) ((u-is ∙ ap charge read-is) i); queues = queuesOf (s .queues); holders = s .current; micros = gained i })
 
           -- the slice is over: an earlier band's entry waits, or the budget is reached
           module _ (why : (waitsBefore (read .qos) (abs later) core ≡ true) ⊎ (read .«slice_budget_us» ≤ read .«consumed_slice_us» + elapsed)) where
-            over : sliceOver (h .0) elapsed core (gain elapsed (abs s)) ≡ true
+            over : sliceOver (h .0) elapsed core now ≡ true
             over = ⊎-elim (λ w. gives-way w) (λ u. used-up u) why
 
-            ends : Harmless (λ (x : ℕ). ⊥) (gain elapsed (abs s)) (outOfSlice (h .0) (gain elapsed (abs s))) × (requeued (h .0) (gain elapsed (abs s)) ≡ outOfSlice (h .0) (gain elapsed (abs s)))
-            ends = slice-ends (gain elapsed (abs s)) (gone-by .invariant) (h .0) (holder-may v low d read-holder some .used)
+            ends : Harmless (λ (x : ℕ). ⊥) now (outOfSlice (h .0) now) × (requeued (h .0) now ≡ outOfSlice (h .0) now)
+            ends = slice-ends now (gone-by .invariant) (h .0) (holder-may v low d read-holder some .used)
 
             there : h .0 < length (abs s .tasks)
             there = omega (arith, holder-below v low d read-holder some, v .accepted .slots)
 
             -- a scheduler that holds what is left at the end of the slice
-            ended-valid : {m : QoSScheduler} → Whole (m .queues) → abs m ≡ outOfSlice (h .0) (gain elapsed (abs s)) → Valid m
+            ended-valid : {m : QoSScheduler} → Whole (m .queues) → abs m ≡ outOfSlice (h .0) now → Valid m
             ended-valid w is = record { whole = w; accepted = subst Accepted (sym is) (harmless-accepted (ends .0)) }
 
-            ended : {m : QoSScheduler} {r : Reply} → abs m ≡ outOfSlice (h .0) (gain elapsed (abs s)) → Meets (Schedule core) m r → Meets (Tick core elapsed) s r
+            ended : {m : QoSScheduler} {r : Reply} → abs m ≡ outOfSlice (h .0) now → Meets (Schedule core) m r → Meets (Tick core elapsed) s r
             unfolding schedule
             ended is m = meets-as m (comes-to true over ∙ ap (λ (t : State). answerSlot (ruleP core t)) (ends .1 ∙ sym is))
 
@@ -157,12 +163,17 @@ module _ {s : QoSScheduler} (v : Valid s) {core micros : ℕ} (elapsed : ℕ) (l
               abbrev spared : QoSScheduler
               spared = record { tasks = set (s .tasks) (h .0) u; queues = s .queues; current = s .current; «system_ticks_us» = micros }
 
-              spared-holds : abs spared ≡ withTask (gain elapsed (abs s)) (h .0) (withConsumed (task (abs s) (h .0)) 0)
+              spared-holds : abs spared ≡ withTask now (h .0) (withConsumed (task (abs s) (h .0)) 0)
               unfolding abs
-              spared-holds = λ i. record { tasks = set (s .tasks) (h .0) ((u-is ∙ ap (λ (t : TaskControlBlock). withConsumed t 0) read-is) i); queues = queuesOf (s .queues); holders = s .current; micros = gained i }
+              spared-holds = λ i. record {
+                tasks = set (s .tasks) (h .0) ((u-is ∙ ap (λ (t : TaskControlBlock). withConsumed t 0) read-is) i);
+                queues = queuesOf (s .queues);
+                holders = s .current;
+                micros = gained i;
+              }
 
-              spared-is : abs spared ≡ outOfSlice (h .0) (gain elapsed (abs s))
-              spared-is = spared-holds ∙ sym (out-ready (gain elapsed (abs s)) (h .0) there (rw (sym read-is) waits))
+              spared-is : abs spared ≡ outOfSlice (h .0) now
+              spared-is = spared-holds ∙ sym (out-ready now (h .0) there (rw (sym read-is) waits))
 
               pub spared-valid : Valid spared
               spared-valid = ended-valid (v .whole) spared-is
@@ -181,14 +192,14 @@ module _ {s : QoSScheduler} (v : Valid s) {core micros : ℕ} (elapsed : ℕ) (l
 
               -- the state that is left, by the record that was read
               abbrev left-with : TaskControlBlock → State
-              left-with t = withTask (withQueue (gain elapsed (abs s)) (t .qos) (pushed (h .0) (queue (abs s) (t .qos)))) (h .0) (withState (withConsumed t 0) Ready)
+              left-with t = withTask (withQueue now (t .qos) (pushed (h .0) (queue (abs s) (t .qos)))) (h .0) (withState (withConsumed t 0) Ready)
 
               sent-back-holds : abs sent-back ≡ left-with read
               unfolding abs
               sent-back-holds = λ i. record { tasks = set (s .tasks) (h .0) (u-is i); queues = back .entries-are i; holders = s .current; micros = gained i }
 
-              sent-back-is : abs sent-back ≡ outOfSlice (h .0) (gain elapsed (abs s))
-              sent-back-is = sent-back-holds ∙ ap left-with read-is ∙ sym (out-queued (gain elapsed (abs s)) (h .0) there (rw (sym read-is) runs))
+              sent-back-is : abs sent-back ≡ outOfSlice (h .0) now
+              sent-back-is = sent-back-holds ∙ ap left-with read-is ∙ sym (out-queued now (h .0) there (rw (sym read-is) runs))
 
               pub sent-back-valid : Valid sent-back
               sent-back-valid = ended-valid (back .whole) sent-back-is

@@ -32,7 +32,8 @@ impl QoSScheduler {
 
     // The core's timer. Time goes by; the core's holder is charged for it unless it is Blocked. A holder whose slice is
     // over, or for whom a task of an earlier band waits that may use the core, goes back to its queue. Answered by who
-    // is to run on the core; for a core of 64 and above by none, and nothing changes.
+    // is to run on the core; for a core of 64 and above by none, and nothing changes. The queue has room for the holder:
+    // 64 entries would be 64 Ready slots, and it is not Ready when it is pushed.
     pub fn on_timer_tick_on_cpu(mut self, core: usize, elapsed_us: u32) -> Reply
         requires { ⌜ Valid self ⌝ }
         ensures { λ r. ⌜ Meets (Call.Tick core «elapsed_us») self r ⌝ }
@@ -66,7 +67,6 @@ impl QoSScheduler {
             return self.schedule_on_cpu(core);
         }
         let band = qos.code() as usize;
-        // There is room: 64 entries would be 64 Ready slots, and this one is not Ready.
         let pushed = self.queues[band].push(slot);
         let queue = pushed.queue;
         self.queues[band] = queue;

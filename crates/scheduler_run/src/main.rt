@@ -30,10 +30,14 @@ fn main() {
     k11();
     largest_sums();
     mask_premise();
+    blocked_holder();
+    ready_holder();
     plans();
     ends();
+    free_slot();
     slot_64();
     core_64();
+    largest();
 }
 
 // K1 "new, schedule: none."
@@ -140,7 +144,8 @@ fn k10() {
     show_value(b"K10 core 0 holds", Value::Task(state.current_task()));
 }
 
-// K11 "enqueue of a holder: Ready and still holder; yield 3, handoff 6 (mistake: holder means Running)."
+// K11 "enqueue of a holder: Ready and still holder; yield 3, handoff 6 (mistake: holder means Running)." Then a second core
+// picks it, and both hold it; the query answers the lower one.
 fn k11() {
     let state = held(1, QoSClass::UserInteractive, 0);
     let state = shown(b"K11 enqueue slot 0", state.enqueue_ready(Slot(0)));
@@ -149,7 +154,8 @@ fn k11() {
     show_value(b"K11 slot 0 is held by", Value::Core(state.holder(Slot(0))));
     let state = shown(b"K11 yield", state.apply(Call::Yield(0)));
     let state = shown(b"K11 handoff", state.apply(Call::Handoff(0)));
-    shown(b"K11 schedule on core 2", state.schedule_on_cpu(2));
+    let state = shown(b"K11 schedule on core 2", state.schedule_on_cpu(2));
+    show_value(b"K11 slot 0 is held by", Value::Core(state.holder(Slot(0))));
 }
 
 // "consumed 1,999 plus 4,294,965,296 is inside the domain, one more is not": here the slice is over both times.
@@ -171,6 +177,25 @@ fn mask_premise() {
     let state = with_mask(queued(3, QoSClass::UserInteractive), Slot(0), 1);
     let state = shown(b"Masks, schedule on core 1", state.schedule_on_cpu(1));
     shown(b"Masks, schedule on core 0", state.schedule());
+}
+
+// "Holder Blocked: clear it, then P." It is not charged.
+fn blocked_holder() {
+    let state = held(2, QoSClass::UserInteractive, 0);
+    let state = shown(b"Blocked holder, block", state.block_task(Slot(0)));
+    let state = shown(b"Blocked holder, tick of 5", state.on_timer_tick(5));
+    show_value(b"Blocked holder", Value::Task(state.task(Slot(0))));
+}
+
+// "the holder is enqueued unless Ready": it waits once, so that when it is picked nobody waits any more.
+fn ready_holder() {
+    let state = held(1, QoSClass::UserInteractive, 0);
+    let state = shown(b"Ready holder, enqueue", state.enqueue_ready(Slot(0)));
+    let state = shown(b"Ready holder, tick of 2000", state.on_timer_tick(2_000));
+    shown(
+        b"Ready holder, schedule on core 1",
+        state.schedule_on_cpu(1),
+    );
 }
 
 // "A plan gives the previous holder or none, and the target: a slot with its cr3, or idle. There is no plan when the
@@ -214,6 +239,14 @@ fn ends() {
     shown(b"End, create", made);
 }
 
+// "slot 64 or above, or not in use": 3 for a slot of the table that is free.
+fn free_slot() {
+    let state = QoSScheduler::new();
+    let state = shown(b"Free slot, block", state.block_task(Slot(9)));
+    let state = shown(b"Free slot, wake", state.wake_task(Slot(9)));
+    shown(b"Free slot, enqueue", state.enqueue_ready(Slot(9)));
+}
+
 // Slot 64: calls refuse it with 3, and queries find nothing there.
 fn slot_64() {
     let state = queued(1, QoSClass::UserInteractive);
@@ -242,6 +275,15 @@ fn core_64() {
     show_value(b"Core 64 for mask 2", Value::Flag(as_0));
     let as_1 = state.can_run_on_core(Slot(0), core + 1);
     show_value(b"Core 65 for mask 2", Value::Flag(as_1));
+}
+
+// The largest slot and core are answered too, and 255 is no slot although it stands for none in a holder.
+fn largest() {
+    let state = queued(1, QoSClass::UserInteractive);
+    let last = 18_446_744_073_709_551_615;
+    let state = shown(b"Largest slot, wake", state.wake_task(Slot(last)));
+    let state = shown(b"Largest core, schedule", state.schedule_on_cpu(last));
+    show_value(b"Slot 255 is held by", Value::Core(state.holder(Slot(255))));
 }
 
 // Prints what was done and its answer; the state after it.
