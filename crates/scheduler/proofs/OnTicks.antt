@@ -67,6 +67,7 @@ tick-past v {core} past is = meets-told v (value.Slot slot.None) is (rw (le-leb 
 -- ---- a core below 64: time goes by first
 
 module _ {s : QoSScheduler} (v : Valid s) {core micros : ℕ} (elapsed : ℕ) (low : core < 64) (gained : micros ≡ (s .«system_ticks_us» + elapsed) % 2 ^ 64) where
+  -- the state once the time has gone by, and the scheduler that holds it
   abbrev now : State
   now = gain elapsed (abs s)
 
