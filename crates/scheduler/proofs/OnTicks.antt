@@ -89,121 +89,120 @@ module _ {s : QoSScheduler} (v : Valid s) {core micros : ℕ} (elapsed : ℕ) (l
     unfolding tick ticked schedule
     tick-none none m = meets-as m (rw (lt-leb 64 core low) (rw (held v low d read-holder ∙ none) (rw later-is refl)))
 
-    module _ (h : Slot) (some : o ≡ slot.Some h) where
-      module _ (dt : TaskControlBlock) where
-        abbrev read : TaskControlBlock
-        read = getD (s .tasks) (h .0) dt
+    module _ (h : Slot) (some : o ≡ slot.Some h) (dt : TaskControlBlock) where
+      abbrev read : TaskControlBlock
+      read = getD (s .tasks) (h .0) dt
 
-        read-is : read ≡ task (abs s) (h .0)
-        read-is = record-at s v (h .0) dt (holder-below v low d read-holder some)
+      read-is : read ≡ task (abs s) (h .0)
+      read-is = record-at s v (h .0) dt (holder-below v low d read-holder some)
 
-        -- the holder is Blocked: the core lets go of it
-        pub tick-blocked : {r : Reply} → isState (read .state) Blocked ≡ true → Meets (Schedule core) (let-go later core) r → Meets (Tick core elapsed) s r
-        unfolding tick ticked schedule
-        tick-blocked so m = meets-as m (rw (lt-leb 64 core low) (rw (held v low d read-holder ∙ some) (rw (sym read-is) (rw so (rw (let-go-is later core) (rw later-is refl))))))
+      -- the holder is Blocked: the core lets go of it
+      pub tick-blocked : {r : Reply} → isState (read .state) Blocked ≡ true → Meets (Schedule core) (let-go later core) r → Meets (Tick core elapsed) s r
+      unfolding tick ticked schedule
+      tick-blocked so m = meets-as m (rw (lt-leb 64 core low) (rw (held v low d read-holder ∙ some) (rw (sym read-is) (rw so (rw (let-go-is later core) (rw later-is refl))))))
 
-        module _ (so : isState (read .state) Blocked ≡ false) where
-          awake : isState (task (abs s) (h .0) .state) Blocked ≡ false
-          awake = rw (sym read-is) so
+      module _ (so : isState (read .state) Blocked ≡ false) where
+        awake : isState (task (abs s) (h .0) .state) Blocked ≡ false
+        awake = rw (sym read-is) so
 
-          -- what the tick comes to, by its test
-          comes-to : (b : Bool) → sliceOver (h .0) elapsed core now ≡ b →
-              tick core elapsed (abs s) ≡ answerSlot (cond b (ruleP core (requeued (h .0) now)) (staysHolder h elapsed now))
-          unfolding tick ticked
-          comes-to b test = rw (lt-leb 64 core low) (rw (held v low d read-holder ∙ some) (rw awake (rw test refl)))
+        -- what the tick comes to, by its test
+        comes-to : (b : Bool) → sliceOver (h .0) elapsed core now ≡ b →
+            tick core elapsed (abs s) ≡ answerSlot (cond b (ruleP core (requeued (h .0) now)) (staysHolder h elapsed now))
+        unfolding tick ticked
+        comes-to b test = rw (lt-leb 64 core low) (rw (held v low d read-holder ∙ some) (rw awake (rw test refl)))
 
-          -- the test, on what was read
-          waits-so : {b : Bool} → waitsBefore (read .qos) (abs later) core ≡ b → waitsBefore (task (abs s) (h .0) .qos) now core ≡ b
-          waits-so e = (λ i. waitsBefore (sym read-is i .qos) (sym later-is i) core) ∙ e
+        -- the test, on what was read
+        waits-so : {b : Bool} → waitsBefore (read .qos) (abs later) core ≡ b → waitsBefore (task (abs s) (h .0) .qos) now core ≡ b
+        waits-so e = (λ i. waitsBefore (sym read-is i .qos) (sym later-is i) core) ∙ e
 
-          goes-on : read .«consumed_slice_us» + elapsed < read .«slice_budget_us» → waitsBefore (read .qos) (abs later) core ≡ false →
-              sliceOver (h .0) elapsed core now ≡ false
-          goes-on short nobody = rw (waits-so nobody) (rw (sym read-is) (rw (lt-leb (read .«slice_budget_us») (read .«consumed_slice_us» + elapsed) short) refl))
+        goes-on : read .«consumed_slice_us» + elapsed < read .«slice_budget_us» → waitsBefore (read .qos) (abs later) core ≡ false →
+            sliceOver (h .0) elapsed core now ≡ false
+        goes-on short nobody = rw (waits-so nobody) (rw (sym read-is) (rw (lt-leb (read .«slice_budget_us») (read .«consumed_slice_us» + elapsed) short) refl))
 
-          used-up : read .«slice_budget_us» ≤ read .«consumed_slice_us» + elapsed → sliceOver (h .0) elapsed core now ≡ true
-          used-up past = rw (sym read-is) (rw (le-leb (read .«slice_budget_us») (read .«consumed_slice_us» + elapsed) past) refl)
+        used-up : read .«slice_budget_us» ≤ read .«consumed_slice_us» + elapsed → sliceOver (h .0) elapsed core now ≡ true
+        used-up past = rw (sym read-is) (rw (le-leb (read .«slice_budget_us») (read .«consumed_slice_us» + elapsed) past) refl)
 
-          gives-way : waitsBefore (read .qos) (abs later) core ≡ true → sliceOver (h .0) elapsed core now ≡ true
-          gives-way waits = rw (waits-so waits) (or-true (leb (task (abs s) (h .0) .«slice_budget_us») (task (abs s) (h .0) .«consumed_slice_us» + elapsed)))
+        gives-way : waitsBefore (read .qos) (abs later) core ≡ true → sliceOver (h .0) elapsed core now ≡ true
+        gives-way waits = rw (waits-so waits) (or-true (leb (task (abs s) (h .0) .«slice_budget_us») (task (abs s) (h .0) .«consumed_slice_us» + elapsed)))
 
-          abbrev charge : TaskControlBlock → TaskControlBlock
-          charge t = withConsumed t (t .«consumed_slice_us» + elapsed)
+        abbrev charge : TaskControlBlock → TaskControlBlock
+        charge t = withConsumed t (t .«consumed_slice_us» + elapsed)
 
-          -- the slice goes on
-          pub tick-stays : {a : Answer} {u : TaskControlBlock} → read .«consumed_slice_us» + elapsed < read .«slice_budget_us» →
-              waitsBefore (read .qos) (abs later) core ≡ false → u ≡ charge read →
-              a ≡ answered pick.None (value.Slot (slot.Some h)) →
-              Meets (Tick core elapsed) s (record { answer = a; state = record { tasks = set (s .tasks) (h .0) u; queues = s .queues; current = s .current; «system_ticks_us» = micros } })
-          unfolding abs
-          tick-stays short nobody u-is a-is =
-              let over : sliceOver (h .0) elapsed core now ≡ false = goes-on short nobody in
-              meets v (answerSlot (staysHolder h elapsed now)) (comes-to false over) (v .whole) a-is
-              (λ i. record { tasks = set (s .tasks) (h .0) ((u-is ∙ ap charge read-is) i); queues = queuesOf (s .queues); holders = s .current; micros = gained i })
+        -- the slice goes on
+        pub tick-stays : {a : Answer} {u : TaskControlBlock} → read .«consumed_slice_us» + elapsed < read .«slice_budget_us» →
+            waitsBefore (read .qos) (abs later) core ≡ false → u ≡ charge read →
+            a ≡ answered pick.None (value.Slot (slot.Some h)) →
+            Meets (Tick core elapsed) s (record { answer = a; state = record { tasks = set (s .tasks) (h .0) u; queues = s .queues; current = s .current; «system_ticks_us» = micros } })
+        unfolding abs
+        tick-stays short nobody u-is a-is =
+            let over : sliceOver (h .0) elapsed core now ≡ false = goes-on short nobody in
+            meets v (answerSlot (staysHolder h elapsed now)) (comes-to false over) (v .whole) a-is
+            (λ i. record { tasks = set (s .tasks) (h .0) ((u-is ∙ ap charge read-is) i); queues = queuesOf (s .queues); holders = s .current; micros = gained i })
 
-          -- the slice is over: an earlier band's entry waits, or the budget is reached
-          module _ (why : (waitsBefore (read .qos) (abs later) core ≡ true) ⊎ (read .«slice_budget_us» ≤ read .«consumed_slice_us» + elapsed)) where
-            over : sliceOver (h .0) elapsed core now ≡ true
-            over = ⊎-elim (λ w. gives-way w) (λ u. used-up u) why
+        -- the slice is over: an earlier band's entry waits, or the budget is reached
+        module _ (why : (waitsBefore (read .qos) (abs later) core ≡ true) ⊎ (read .«slice_budget_us» ≤ read .«consumed_slice_us» + elapsed)) where
+          over : sliceOver (h .0) elapsed core now ≡ true
+          over = ⊎-elim (λ w. gives-way w) (λ u. used-up u) why
 
-            ends : Harmless (λ (x : ℕ). ⊥) now (outOfSlice (h .0) now) × (requeued (h .0) now ≡ outOfSlice (h .0) now)
-            ends = slice-ends now (gone-by .invariant) (h .0) (holder-may v low d read-holder some .used)
+          ends : Harmless (λ (x : ℕ). ⊥) now (outOfSlice (h .0) now) × (requeued (h .0) now ≡ outOfSlice (h .0) now)
+          ends = slice-ends now (gone-by .invariant) (h .0) (holder-may v low d read-holder some .used)
 
-            there : h .0 < length (abs s .tasks)
-            there = omega (arith, holder-below v low d read-holder some, v .accepted .slots)
+          there : h .0 < length (abs s .tasks)
+          there = omega (arith, holder-below v low d read-holder some, v .accepted .slots)
 
-            -- a scheduler that holds what is left at the end of the slice
-            ended-valid : {m : QoSScheduler} → Whole (m .queues) → abs m ≡ outOfSlice (h .0) now → Valid m
-            ended-valid w is = record { whole = w; accepted = subst Accepted (sym is) (harmless-accepted (ends .0)) }
+          -- a scheduler that holds what is left at the end of the slice
+          ended-valid : {m : QoSScheduler} → Whole (m .queues) → abs m ≡ outOfSlice (h .0) now → Valid m
+          ended-valid w is = record { whole = w; accepted = subst Accepted (sym is) (harmless-accepted (ends .0)) }
 
-            ended : {m : QoSScheduler} {r : Reply} → abs m ≡ outOfSlice (h .0) now → Meets (Schedule core) m r → Meets (Tick core elapsed) s r
-            unfolding schedule
-            ended is m = meets-as m (comes-to true over ∙ ap (λ (t : State). answerSlot (ruleP core t)) (ends .1 ∙ sym is))
+          ended : {m : QoSScheduler} {r : Reply} → abs m ≡ outOfSlice (h .0) now → Meets (Schedule core) m r → Meets (Tick core elapsed) s r
+          unfolding schedule
+          ended is m = meets-as m (comes-to true over ∙ ap (λ (t : State). answerSlot (ruleP core t)) (ends .1 ∙ sym is))
 
-            -- a Ready holder waits already
-            module _ (waits : isState (read .state) Ready ≡ true) {u : TaskControlBlock} (u-is : u ≡ withConsumed read 0) where
-              abbrev spared : QoSScheduler
-              spared = record { tasks = set (s .tasks) (h .0) u; queues = s .queues; current = s .current; «system_ticks_us» = micros }
+          -- a Ready holder waits already
+          module _ (waits : isState (read .state) Ready ≡ true) {u : TaskControlBlock} (u-is : u ≡ withConsumed read 0) where
+            abbrev spared : QoSScheduler
+            spared = record { tasks = set (s .tasks) (h .0) u; queues = s .queues; current = s .current; «system_ticks_us» = micros }
 
-              spared-holds : abs spared ≡ withTask now (h .0) (withConsumed (task (abs s) (h .0)) 0)
-              unfolding abs
-              spared-holds = λ i. record {
-                tasks = set (s .tasks) (h .0) ((u-is ∙ ap (λ (t : TaskControlBlock). withConsumed t 0) read-is) i);
-                queues = queuesOf (s .queues);
-                holders = s .current;
-                micros = gained i;
-              }
+            spared-holds : abs spared ≡ withTask now (h .0) (withConsumed (task (abs s) (h .0)) 0)
+            unfolding abs
+            spared-holds = λ i. record {
+              tasks = set (s .tasks) (h .0) ((u-is ∙ ap (λ (t : TaskControlBlock). withConsumed t 0) read-is) i);
+              queues = queuesOf (s .queues);
+              holders = s .current;
+              micros = gained i;
+            }
 
-              spared-is : abs spared ≡ outOfSlice (h .0) now
-              spared-is = spared-holds ∙ sym (out-ready now (h .0) there (rw (sym read-is) waits))
+            spared-is : abs spared ≡ outOfSlice (h .0) now
+            spared-is = spared-holds ∙ sym (out-ready now (h .0) there (rw (sym read-is) waits))
 
-              pub spared-valid : Valid spared
-              spared-valid = ended-valid (v .whole) spared-is
+            pub spared-valid : Valid spared
+            spared-valid = ended-valid (v .whole) spared-is
 
-              pub tick-waits : {r : Reply} → Meets (Schedule core) spared r → Meets (Tick core elapsed) s r
-              tick-waits m = ended spared-is m
+            pub tick-waits : {r : Reply} → Meets (Schedule core) spared r → Meets (Tick core elapsed) s r
+            tick-waits m = ended spared-is m
 
-            -- any other goes to the tail of its band
-            module _ (runs : isState (read .state) Ready ≡ false) {n : ℕ} (code : IsBandCode (read .qos) n) (dq : BandQueue) {p : Pushed}
-                (push : Push (getD (s .queues) n dq) h p) {u : TaskControlBlock} (u-is : u ≡ withState (withConsumed read 0) Ready) where
-              abbrev sent-back : QoSScheduler
-              sent-back = record { tasks = set (s .tasks) (h .0) u; queues = set (s .queues) n (p .queue); current = s .current; «system_ticks_us» = micros }
+          -- any other goes to the tail of its band
+          module _ (runs : isState (read .state) Ready ≡ false) {n : ℕ} (code : IsBandCode (read .qos) n) (dq : BandQueue) {p : Pushed}
+              (push : Push (getD (s .queues) n dq) h p) {u : TaskControlBlock} (u-is : u ≡ withState (withConsumed read 0) Ready) where
+            abbrev sent-back : QoSScheduler
+            sent-back = record { tasks = set (s .tasks) (h .0) u; queues = set (s .queues) n (p .queue); current = s .current; «system_ticks_us» = micros }
 
-              back : Hold (set (s .queues) n (p .queue)) (withBand (queuesOf (s .queues)) (read .qos) (pushed (h .0) (queue (abs s) (read .qos))))
-              back = pushed-back v (read .qos) (code .is) dq push
+            back : Hold (set (s .queues) n (p .queue)) (withBand (queuesOf (s .queues)) (read .qos) (pushed (h .0) (queue (abs s) (read .qos))))
+            back = pushed-back v (read .qos) (code .is) dq push
 
-              -- the state that is left, by the record that was read
-              abbrev left-with : TaskControlBlock → State
-              left-with t = withTask (withQueue now (t .qos) (pushed (h .0) (queue (abs s) (t .qos)))) (h .0) (withState (withConsumed t 0) Ready)
+            -- the state that is left, by the record that was read
+            abbrev left-with : TaskControlBlock → State
+            left-with t = withTask (withQueue now (t .qos) (pushed (h .0) (queue (abs s) (t .qos)))) (h .0) (withState (withConsumed t 0) Ready)
 
-              sent-back-holds : abs sent-back ≡ left-with read
-              unfolding abs
-              sent-back-holds = λ i. record { tasks = set (s .tasks) (h .0) (u-is i); queues = back .entries-are i; holders = s .current; micros = gained i }
+            sent-back-holds : abs sent-back ≡ left-with read
+            unfolding abs
+            sent-back-holds = λ i. record { tasks = set (s .tasks) (h .0) (u-is i); queues = back .entries-are i; holders = s .current; micros = gained i }
 
-              sent-back-is : abs sent-back ≡ outOfSlice (h .0) now
-              sent-back-is = sent-back-holds ∙ ap left-with read-is ∙ sym (out-queued now (h .0) there (rw (sym read-is) runs))
+            sent-back-is : abs sent-back ≡ outOfSlice (h .0) now
+            sent-back-is = sent-back-holds ∙ ap left-with read-is ∙ sym (out-queued now (h .0) there (rw (sym read-is) runs))
 
-              pub sent-back-valid : Valid sent-back
-              sent-back-valid = ended-valid (back .whole) sent-back-is
+            pub sent-back-valid : Valid sent-back
+            sent-back-valid = ended-valid (back .whole) sent-back-is
 
-              pub tick-over : {r : Reply} → Meets (Schedule core) sent-back r → Meets (Tick core elapsed) s r
-              tick-over m = ended sent-back-is m
+            pub tick-over : {r : Reply} → Meets (Schedule core) sent-back r → Meets (Tick core elapsed) s r
+            tick-over m = ended sent-back-is m

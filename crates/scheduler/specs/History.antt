@@ -1,5 +1,5 @@
--- Demands 2 and 3 on the code: histories of calls that keep their contract, and what is claimed of each. The contract of `apply` and of every
--- method is `Meets`, so whatever calls the code is given, in whatever order, make a history.
+-- Demands 2 and 3 on the code: histories of calls that keep their contract, and what is claimed of each. The contract of `apply` and of the
+-- methods of the eleven calls is `Meets`, so whatever calls they are given, in whatever order, make a history.
 use mathlib.Core.Path.{_≡_}
 use mathlib.Core.List.{List, [], _∷_, _++_, map}
 use Prim.Native.Nat.{ℕ, _<_}
