@@ -1,0 +1,26 @@
+-- Laws about the definitions of specs/. What a reader of texts, and whoever comes above, may cite:
+--
+--   Numbers     big-endian numbers: written and read back, over every width
+--   Digits      hexadecimal digits: written and read back
+--   Sizes       how many bytes an answer has
+--   Refused     lines and frames that are longer than any frame
+--   Texts       texts answered in parts: nothing is lost, nothing answered twice
+--   Moving      bytes moved to the front
+--
+-- How the functions are shown to meet their contracts: Stores and Runs are about bytes and numbers stored one behind the other,
+-- Encodings puts an answer together, Decodings is the table of calls, Cuts where a text is cut into lines, Tellings what one
+-- line is told, Onward one line and then the others, Progress the loop that answers a text.
+pub mod Numbers
+pub mod Digits
+pub mod Sizes
+pub mod Refused
+pub mod Texts
+pub mod Moving
+mod Stores
+mod Runs
+mod Encodings
+mod Decodings
+mod Cuts
+mod Tellings
+mod Onward
+mod Progress

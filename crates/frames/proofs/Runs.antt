@@ -1,0 +1,24 @@
+-- Numbers stored one behind the other, each in its width: what a run of stores leaves is what `written` says.
+-- Assumes nothing.
+use mathlib.Core.Path.{_≡_, refl, sym, ap, _∙_}
+use mathlib.Core.List.{List, [], _∷_, _++_, append-nil}
+use Prim.Native.Nat.{ℕ, _+_}
+use lib.ListN.{length}
+use lib.Seq.{sets}
+use Rattle.frames.specs.Bytes.{bytesOf}
+use Rattle.frames.proofs.Numbers.{length-bytesOf}
+use Rattle.frames.proofs.Stores.{sets-append}
+
+-- a number, then what is stored behind it
+pub run : (o : List ℕ) {o₁ o₂ : List ℕ} (at width next : ℕ) {x y : ℕ} (rest : List ℕ) → o₁ ≡ sets o at (bytesOf width x) → x ≡ y
+    → next ≡ at + width → o₂ ≡ sets o₁ next rest → o₂ ≡ sets o at (bytesOf width y ++ rest)
+run o at width next {y = y} rest e v n more =
+    more
+    ∙ (λ i. sets (e i) (n i) rest)
+    ∙ (λ i. sets (sets o at (bytesOf width (v i))) (at + width) rest)
+    ∙ ap (λ (w : ℕ). sets (sets o at (bytesOf width y)) (at + w) rest) (sym (length-bytesOf width y))
+    ∙ sym (sets-append o at (bytesOf width y) rest)
+
+-- the last number of a run
+pub run-end : (o : List ℕ) {o₁ : List ℕ} (at width : ℕ) {x y : ℕ} → o₁ ≡ sets o at (bytesOf width x) → x ≡ y → o₁ ≡ sets o at (bytesOf width y ++ [])
+run-end o at width {y = y} e v = e ∙ (λ i. sets o at (bytesOf width (v i))) ∙ ap (sets o at) (sym (append-nil (bytesOf width y)))

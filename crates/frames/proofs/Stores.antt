@@ -1,0 +1,31 @@
+-- Bytes stored one behind the other in a buffer (`sets`): in two goes, the last one first, and read back.
+-- Assumes nothing.
+use mathlib.Core.Path.{_≡_, refl, sym, ap, _∙_}
+use mathlib.Core.List.{List, [], _∷_, _++_}
+use Prim.Native.Nat.{ℕ, suc, _+_, _≤_}
+use native.Mathlib.Omega.{arith}
+use native.Mathlib.Nat.{add-zero, add-suc, suc-add}
+use lib.ListN.{length, take, set}
+use lib.Seq.{sets, sets-eq, set-comm, take-at}
+
+-- first some, then the rest behind them
+pub sets-append : (o : List ℕ) (at : ℕ) (a b : List ℕ) → sets o at (a ++ b) ≡ sets (sets o at a) (at + length a) b
+sets-append o at [] b = ap (λ (n : ℕ). sets o n b) (sym (add-zero at))
+sets-append o at (x ∷ a) b =
+    sets-append (set o at x) (suc at) a b
+    ∙ ap (λ (n : ℕ). sets (sets (set o at x) (suc at) a) n b) (suc-add at (length a) ∙ sym (add-suc at (length a)))
+
+-- a store behind the run's places
+set-sets-past : (o : List ℕ) (i at : ℕ) (x : ℕ) (a : List ℕ) → at + length a ≤ i → sets (set o i x) at a ≡ set (sets o at a) i x
+set-sets-past o i at x [] h = refl
+set-sets-past o i at x (y ∷ a) h =
+    let apart : i ≡ at → ⊥ = λ e. omega (arith, e, h) in
+    ap (λ (l : List ℕ). sets l (suc at) a) (set-comm o i at x y apart) ∙ set-sets-past (set o at y) i (suc at) x a (omega (arith, h))
+
+-- the last byte first
+pub sets-snoc : (o : List ℕ) (at : ℕ) (a : List ℕ) (x : ℕ) → sets o at (a ++ (x ∷ [])) ≡ sets (set o (at + length a) x) at a
+sets-snoc o at a x = sets-append o at a (x ∷ []) ∙ sym (set-sets-past o (at + length a) at x a (omega arith))
+
+-- what was stored at the front stands there
+pub take-sets : (o a : List ℕ) → length a ≤ length o → take (length a) (sets o 0 a) ≡ a
+take-sets o a h = ap (take (length a)) (sets-eq a o 0 (omega (arith, h))) ∙ take-at a _ (length a) refl

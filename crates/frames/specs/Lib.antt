@@ -1,0 +1,11 @@
+-- Document 01's frames and answers as lists of bytes, and text of lines. All of it computes; what a function promises is an equation to one of
+-- these definitions, or a record with named fields of such equations.
+--
+--   Bytes    big-endian numbers                  Hex      two digits a byte
+--   Frame    which call a frame stands for       Answer   the bytes of an answer
+--   Lines    lines of text, and the text of their answers
+pub mod Bytes
+pub mod Hex
+pub mod Frame
+pub mod Answer
+pub mod Lines

@@ -1,0 +1,47 @@
+// Big-endian numbers in a slice of bytes, by one law over the width.
+ghost use mathlib.Core.Path.{_≡_};
+ghost use Prim.Native.Nat.{_+_, _^_, _≤_, _<_};
+ghost use lib.Seq.{sets};
+ghost use Rattle.frames.specs.Bytes.{IsNumber, bytesOf};
+
+// The number in `width` bytes from `at` on. Bytes past the end of the slice are not there: a number that runs over it is
+// read from those before.
+pub(crate) fn number(bytes: &[u8], at: usize, width: usize) -> u64
+    requires { ⌜ at + width < 2 ^ 64 ⌝ }
+    requires { ⌜ width ≤ 8 ⌝ }
+    ensures { λ r. ⌜ IsNumber at width (now (bytes .entry)) r ⌝ }
+{
+    let mut read = 0;
+    let mut k = 0;
+    while k < width {
+        if bytes.len() <= at + k {
+            return read;
+        }
+        read = read * 256 + wide(bytes[at + k]);
+        k += 1;
+    }
+    read
+}
+
+// The number stored in `width` bytes from `at` on. A byte that has no place in the slice is not stored.
+pub(crate) fn put_number(bytes: &mut [u8], at: usize, width: usize, number: u64)
+    requires { ⌜ at + width < 2 ^ 64 ⌝ }
+    ensures { λ _. ⌜ now (bytes .exit) ≡ sets (now (bytes .entry)) at (bytesOf width number) ⌝ }
+{
+    let mut left = number;
+    let mut k = width;
+    while 0 < k {
+        k -= 1;
+        if at + k < bytes.len() {
+            bytes[at + k] = (left % 256) as u8;
+        }
+        left /= 256;
+    }
+}
+
+// A byte as a number of 64 bits.
+fn wide(byte: u8) -> u64
+    ensures { λ r. ⌜ (r ≡ byte) × (r < 256) ⌝ }
+{
+    byte as u64
+}

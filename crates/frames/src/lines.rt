@@ -1,0 +1,176 @@
+// Text of lines: the next line, the call that it stands for, and the answers to a whole text.
+ghost use mathlib.Core.Path.{_≡_};
+ghost use Prim.Native.Nat.{_+_, _-_, _*_, _≤_, min};
+ghost use lib.ListN.{length, drop};
+ghost use lib.Seq.{sets};
+ghost use Rattle.frames.specs.Bytes.{Puts, part};
+ghost use Rattle.frames.specs.Lines.{lineOf, lineCall, lineText, Tells, Answers, keptFrom};
+ghost use Rattle.scheduler.specs.Scheduler.{Valid};
+use crate::bytes::put_number;
+use crate::decode::CallOption;
+use crate::decode::read_frame;
+use crate::encode::ANSWER_MAX;
+use crate::encode::write_answer;
+use crate::hex::from_hex;
+use crate::hex::is_hex;
+use crate::hex::put_hex;
+use scheduler::QoSScheduler;
+
+const NEWLINE: u8 = b'\n';
+
+// No frame has more bytes, and no line that stands for one more digits.
+const FRAME_MAX: usize = 30;
+
+const LINE_MAX: usize = 2 * FRAME_MAX;
+
+// What a line was answered: the state after it, and how many bytes of the buffer the answer takes.
+pub struct Told {
+    pub state: QoSScheduler,
+    pub length: usize,
+}
+
+// How far a text was answered: the state then, how many bytes of the text are done with, and how many bytes of answers
+// were written.
+pub struct Answered {
+    pub state: QoSScheduler,
+    pub used: usize,
+    pub written: usize,
+}
+
+// The line that begins at `at`, as that part of the input: up to the next newline, which is not in it, or to the end. A
+// line begins at every place before the end.
+pub fn next_line(input: &[u8], at: usize) -> &[u8]
+    ensures { λ r. ⌜ now r ≡ lineOf (drop at (now (input .entry))) ⌝ }
+{
+    if input.len() <= at {
+        return &input[..0];
+    }
+    let mut end = at;
+    while end < input.len() && input[end] != NEWLINE {
+        end += 1;
+    }
+    &input[at..end]
+}
+
+// The call that a line of digits stands for.
+pub fn read_line(line: &[u8]) -> CallOption
+    ensures { λ r. ⌜ r ≡ lineCall (now (line .entry)) ⌝ }
+{
+    if LINE_MAX < line.len() {
+        return CallOption::None;
+    }
+    if !is_hex(line) {
+        return CallOption::None;
+    }
+    let mut frame = [0u8; FRAME_MAX];
+    from_hex(line, &mut frame);
+    let n = line.len() / 2;
+    read_frame(&frame[..n])
+}
+
+// A line's answer, as bytes at the front of a buffer. A line that is no frame changes nothing and is answered 09 ff ff.
+pub fn answer_line(state: QoSScheduler, line: &[u8], out: &mut [u8]) -> Told
+    requires { ⌜ Valid state ⌝ }
+    ensures { λ r. ⌜ Tells (now (line .entry)) state (now (out .entry)) (now (out .exit)) r ⌝ }
+{
+    let CallOption::Some(call) = read_line(line) else {
+        put_number(out, 0, 1, 9);
+        put_number(out, 1, 2, 65535);
+        return Told { state, length: 3 };
+    };
+    let reply = state.apply(call);
+    let answer = reply.answer;
+    let length = write_answer(answer, out);
+    let next = reply.state;
+    Told {
+        state: next,
+        length,
+    }
+}
+
+// The answers to a text's lines, each closed by a newline, at the front of a buffer: as many as have room. Where the text
+// is not the last, a line that no newline closes is left for when more of it is there.
+pub fn answer_text(state: QoSScheduler, input: &[u8], last: bool, out: &mut [u8]) -> Answered
+    requires { ⌜ Valid state ⌝ }
+    ensures { λ r. ⌜ Answers last state (now (input .entry)) (now (out .entry)) (now (out .exit)) r ⌝ }
+{
+    let mut state = state;
+    let mut used = 0;
+    let mut written = 0;
+    while used < input.len() {
+        let line = next_line(input, used);
+        let end = used + line.len();
+        if !last && end == input.len() {
+            break;
+        }
+        let mut answer = [0u8; ANSWER_MAX];
+        let told = answer_line(state, line, &mut answer);
+        let n = told.length;
+        let size = 2 * n + 1;
+        if out.len() - written < size {
+            break;
+        }
+        put_line(&answer[..n], out, written);
+        let next = told.state;
+        state = next;
+        used = past_newline(input, end);
+        written += size;
+    }
+    Answered {
+        state,
+        used,
+        written,
+    }
+}
+
+// An answer as a line of text, from `at` on.
+fn put_line(answer: &[u8], out: &mut [u8], at: usize)
+    requires { ⌜ at + 2 * length (now answer) + 1 ≤ length (now out) ⌝ }
+    ensures { λ _. ⌜ now (out .exit) ≡ sets (now (out .entry)) at (lineText (now (answer .entry))) ⌝ }
+{
+    put_hex(answer, out, at);
+    let end = at + 2 * answer.len();
+    out[end] = NEWLINE;
+}
+
+// The place behind a line's end: past its newline, if it has one.
+fn past_newline(input: &[u8], end: usize) -> usize
+    requires { ⌜ end ≤ length (now input) ⌝ }
+    ensures { λ r. ⌜ r ≡ min (end + 1) (length (now (input .entry))) ⌝ }
+{
+    if end < input.len() {
+        return end + 1;
+    }
+    end
+}
+
+// From where input has to be kept for the next block, where a line begins at `at` that nothing closes yet: of a line that
+// is longer than any frame only so much is kept that it is still longer, since it is refused whatever follows.
+pub fn kept_from(input: &[u8], at: usize) -> usize
+    ensures { λ r. ⌜ r ≡ keptFrom (now (input .entry)) at ⌝ }
+{
+    let line = next_line(input, at);
+    if line.len() <= LINE_MAX {
+        return at;
+    }
+    if at + line.len() < input.len() {
+        return at;
+    }
+    input.len() - (LINE_MAX + 1)
+}
+
+// The bytes from `from` up to `end`, as far as there are any, moved to the front, and their number.
+pub fn move_to_front(bytes: &mut [u8], from: usize, end: usize) -> usize
+    ensures { λ r. ⌜ Puts (part from (end - from) (now (bytes .entry))) 0 (now (bytes .entry)) (now (bytes .exit)) r ⌝ }
+{
+    let n = bytes.len();
+    let mut moved = 0;
+    while from + moved < end {
+        if n <= from + moved {
+            return moved;
+        }
+        bytes[moved] = bytes[from + moved];
+        moved += 1;
+    }
+    moved
+}

@@ -1,0 +1,139 @@
+// Replays stored lists of calls, with no Rust at hand, and compares each answer with the stored one, byte for byte.
+//
+// Standard input has one list behind the other. A line that begins with `=` names the list that follows, which starts
+// with a new scheduler; then every frame takes a line and its answer the next. oracle/README.md says how the lists were
+// made. The last line counts what was compared.
+ghost use Prim.Native.Nat.{_≤_};
+ghost use lib.ListN.{length};
+ghost use Rattle.scheduler.specs.Scheduler.{Valid};
+use libc::STDIN_FILENO;
+use libc::STDOUT_FILENO;
+use scheduler::QoSScheduler;
+
+// No stored line is longer.
+const LINE_MAX: usize = 256;
+
+// What begins a list's name.
+const NAME: u8 = b'=';
+
+// Where a replay stands.
+struct Replay {
+    state: QoSScheduler,
+    // How many bytes the last frame's answer has that waits for the stored one; 0 where a frame or a name comes next.
+    waiting: usize,
+    lists: u64,
+    calls: u64,
+    differences: u64,
+}
+
+fn main() {
+    let mut replay = Replay {
+        state: QoSScheduler::new(),
+        waiting: 0,
+        lists: 0,
+        calls: 0,
+        differences: 0,
+    };
+    let mut line = [0u8; LINE_MAX];
+    let mut answer = [0u8; LINE_MAX];
+    // counted down, since a proved loop has to end and nothing says that the input does
+    let mut turns = u64::MAX;
+    while 0 < turns {
+        turns -= 1;
+        let n = read_line(&mut line);
+        if n == 0 {
+            break;
+        }
+        let next = replay_line(replay, &line[..n], &mut answer);
+        replay = next;
+    }
+    report(replay.lists, replay.calls, replay.differences);
+}
+
+// Reads a line with its newline, and says how long it is; 0 at the end of the input.
+fn read_line(line: &mut [u8]) -> usize
+    ensures { λ r. ⌜ r ≤ length (now (line .exit)) ⌝ }
+{
+    let mut n = 0;
+    while n < line.len() {
+        let behind = n + 1;
+        if libc::read(STDIN_FILENO, &mut line[n..behind]) <= 0 {
+            break;
+        }
+        n = behind;
+        if line[n - 1] == b'\n' {
+            break;
+        }
+    }
+    n
+}
+
+// One line, with its newline: the stored answer to the last frame, or a list's name, or a frame.
+fn replay_line(replay: Replay, line: &[u8], answer: &mut [u8]) -> Replay
+    requires { ⌜ Valid (replay .state) ⌝ }
+    ensures { λ r. ⌜ Valid (r .state) ⌝ }
+{
+    if 0 < replay.waiting {
+        return compared(replay, line, answer);
+    }
+    if 0 < line.len() {
+        if line[0] == NAME {
+            return Replay {
+                state: QoSScheduler::new(),
+                waiting: 0,
+                lists: std::num::wrapping_add_u64(replay.lists, 1),
+                calls: replay.calls,
+                differences: replay.differences,
+            };
+        }
+    }
+    let state = replay.state;
+    let answered = frames::answer_text(state, line, false, answer);
+    let next = answered.state;
+    Replay {
+        state: next,
+        waiting: answered.written,
+        lists: replay.lists,
+        calls: replay.calls,
+        differences: replay.differences,
+    }
+}
+
+// The answer that waits, held against the stored one; a difference is printed with both.
+fn compared(replay: Replay, stored: &[u8], answer: &mut [u8]) -> Replay
+    requires { ⌜ Valid (replay .state) ⌝ }
+    ensures { λ r. ⌜ Valid (r .state) ⌝ }
+{
+    let waiting = replay.waiting;
+    let state = replay.state;
+    let mut differences = replay.differences;
+    if waiting <= answer.len() {
+        if !check::same(&answer[..waiting], stored) {
+            differences = std::num::wrapping_add_u64(differences, 1);
+            print(b"stored ");
+            print(stored);
+            print(b"found  ");
+            print(&answer[..waiting]);
+        }
+    }
+    Replay {
+        state,
+        waiting: 0,
+        lists: replay.lists,
+        calls: std::num::wrapping_add_u64(replay.calls, 1),
+        differences,
+    }
+}
+
+fn report(lists: u64, calls: u64, differences: u64) {
+    io::print_decimal(STDOUT_FILENO, lists);
+    print(b" lists, ");
+    io::print_decimal(STDOUT_FILENO, calls);
+    print(b" calls, ");
+    io::print_decimal(STDOUT_FILENO, differences);
+    print(b" differences\n");
+}
+
+fn print(text: &[u8]) {
+    io::write_all(STDOUT_FILENO, text);
+}
