@@ -79,13 +79,14 @@ unfolding bigEndianFrom
 number-begin at bytes = record { is = refl; small = omega arith }
 
 pub number-on : {at k : ℕ} {bytes : List ℕ} {read b : ℕ} → IsNumber at k bytes read → at + k < length bytes → b ≡ getD bytes (at + k) 0 → b < 256 →
-    IsNumber at (k + 1) bytes (read * 256 + b)
-number-on {at} {k} {bytes} {b = b} so h e small =
+    IsNumber at (k + 1) bytes (b + read * 256)
+number-on {at} {k} {bytes} {read} {b} so h e small =
+    let turned : b + read * 256 ≡ read * 256 + b = omega arith in
     let inside : k < length (drop at bytes) = simp length-drop (omega arith) in
     let last : b ≡ getD (drop at bytes) k 0 = e ∙ sym (getD-drop at bytes k 0) in
     rw (add-one k)
     record {
-      is = (λ i. so .is i * 256 + last i)
+      is = turned ∙ (λ i. so .is i * 256 + last i)
           ∙ sym (bigEndian-snoc 0 (take k (drop at bytes)) (getD (drop at bytes) k 0))
           ∙ ap bigEndian (sym (take-suc (drop at bytes) k 0 inside));
       small = omega (arith, pow-suc 256 k, so .small);

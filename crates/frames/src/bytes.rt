@@ -17,7 +17,7 @@ pub(crate) fn number(bytes: &[u8], at: usize, width: usize) -> u64
         if bytes.len() <= at + k {
             return read;
         }
-        read = read * 256 + wide(bytes[at + k]);
+        read = wide(bytes[at + k]) + read * 256;
         k += 1;
     }
     read

@@ -5,16 +5,20 @@
 //   decode   a frame's bytes, read as a call
 //   encode   an answer's bytes, written into a lent buffer
 //   lines    the next line of a text, its call, and the answers to a whole text
+//   blocks   what has to be kept of a text that is read in blocks
 //
 // Nothing is presumed of any bytes: what is no frame is refused with 9. Each function promises its whole result and the
 // whole contents of the buffers that it is lent, as equal to definitions on lists of bytes in specs/; proofs/ has the
 // laws of those definitions.
+mod blocks;
 mod bytes;
 mod decode;
 mod encode;
 mod hex;
 mod lines;
 
+pub use blocks::kept_from;
+pub use blocks::move_to_front;
 pub use decode::CallOption;
 pub use decode::read_frame;
 pub use encode::ANSWER_MAX;
@@ -23,7 +27,5 @@ pub use lines::Answered;
 pub use lines::Told;
 pub use lines::answer_line;
 pub use lines::answer_text;
-pub use lines::kept_from;
-pub use lines::move_to_front;
 pub use lines::next_line;
 pub use lines::read_line;

@@ -1,10 +1,9 @@
 // Text of lines: the next line, the call that it stands for, and the answers to a whole text.
 ghost use mathlib.Core.Path.{_≡_};
-ghost use Prim.Native.Nat.{_+_, _-_, _*_, _≤_, min};
+ghost use Prim.Native.Nat.{_+_, _*_, _≤_, min};
 ghost use lib.ListN.{length, drop};
 ghost use lib.Seq.{sets};
-ghost use Rattle.frames.specs.Bytes.{Puts, part};
-ghost use Rattle.frames.specs.Lines.{lineOf, lineCall, lineText, Tells, Answers, keptFrom};
+ghost use Rattle.frames.specs.Lines.{lineOf, lineCall, lineText, Tells, Answers};
 ghost use Rattle.scheduler.specs.Scheduler.{Valid};
 use crate::bytes::put_number;
 use crate::decode::CallOption;
@@ -18,10 +17,15 @@ use scheduler::QoSScheduler;
 
 const NEWLINE: u8 = b'\n';
 
+// The answer to a line that is no frame: refusal 9, and ff ff for no pick.
+const NO_FRAME: u64 = 9;
+
+const NO_PICK: u64 = 0xffff;
+
 // No frame has more bytes, and no line that stands for one more digits.
 const FRAME_MAX: usize = 30;
 
-const LINE_MAX: usize = 2 * FRAME_MAX;
+pub(crate) const LINE_MAX: usize = 2 * FRAME_MAX;
 
 // What a line was answered: the state after it, and how many bytes of the buffer the answer takes.
 pub struct Told {
@@ -74,8 +78,8 @@ pub fn answer_line(state: QoSScheduler, line: &[u8], out: &mut [u8]) -> Told
     ensures { λ r. ⌜ Tells (now (line .entry)) state (now (out .entry)) (now (out .exit)) r ⌝ }
 {
     let CallOption::Some(call) = read_line(line) else {
-        put_number(out, 0, 1, 9);
-        put_number(out, 1, 2, 65535);
+        put_number(out, 0, 1, NO_FRAME);
+        put_number(out, 1, 2, NO_PICK);
         return Told { state, length: 3 };
     };
     let reply = state.apply(call);
@@ -142,35 +146,4 @@ fn past_newline(input: &[u8], end: usize) -> usize
         return end + 1;
     }
     end
-}
-
-// From where input has to be kept for the next block, where a line begins at `at` that nothing closes yet: of a line that
-// is longer than any frame only so much is kept that it is still longer, since it is refused whatever follows.
-pub fn kept_from(input: &[u8], at: usize) -> usize
-    ensures { λ r. ⌜ r ≡ keptFrom (now (input .entry)) at ⌝ }
-{
-    let line = next_line(input, at);
-    if line.len() <= LINE_MAX {
-        return at;
-    }
-    if at + line.len() < input.len() {
-        return at;
-    }
-    input.len() - (LINE_MAX + 1)
-}
-
-// The bytes from `from` up to `end`, as far as there are any, moved to the front, and their number.
-pub fn move_to_front(bytes: &mut [u8], from: usize, end: usize) -> usize
-    ensures { λ r. ⌜ Puts (part from (end - from) (now (bytes .entry))) 0 (now (bytes .entry)) (now (bytes .exit)) r ⌝ }
-{
-    let n = bytes.len();
-    let mut moved = 0;
-    while from + moved < end {
-        if n <= from + moved {
-            return moved;
-        }
-        bytes[moved] = bytes[from + moved];
-        moved += 1;
-    }
-    moved
 }

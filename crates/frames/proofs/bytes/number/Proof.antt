@@ -20,7 +20,7 @@ returns : tie.Need-returns Inv-loop μ-loop
 returns c = number-short (c .before .before .loop .inv .1) (search needs) (search needs)
 
 mul-read : tie.Need-mul-read Inv-loop μ-loop
-mul-read c = omega (arith, number-room (c .before .before .loop .inv .1) (omega arith))
+mul-read c = omega (arith, number-room (c .before .before .before .before .loop .inv .1) (omega arith))
 
 add-read : tie.Need-add-read Inv-loop μ-loop
 add-read c = omega (arith, number-room (c .before .before .before .before .loop .inv .1) (omega arith))
@@ -40,10 +40,10 @@ number-spec =
     loop-holds
     (λ c. search needs)
     returns
-    mul-read
     (λ c. search needs)
     (λ c. search needs)
     (λ c κs. search needs)
+    mul-read
     add-read
     (λ c. search needs)
     (λ c. search needs)

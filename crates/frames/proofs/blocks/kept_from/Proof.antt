@@ -3,8 +3,8 @@ use mathlib.Core.Logic.{inl, inr}
 use borrow.Author.Needs.{needs}
 use Rattle.frames.proofs.Cuts.{line-within}
 use Rattle.frames.proofs.Texts.{kept-all, kept-end}
-use Rattle.frames.proofs.lines.kept_from.Statement.{statement}
-use Rattle.frames.proofs.lines.kept_from.Tie as tie
+use Rattle.frames.proofs.blocks.kept_from.Statement.{statement}
+use Rattle.frames.proofs.blocks.kept_from.Tie as tie
 
 returns : tie.Need-returns
 returns c = kept-all _ _ (c .before .next-line .ensures) (inl (c .if1 .taken))

@@ -5,8 +5,8 @@ use native.Mathlib.Omega.{arith}
 use lib.ListN.{length}
 use Rattle.frames.proofs.Moving.{Moving, begins, turn, ends-at, ends-past}
 use borrow.Author.Needs.{needs}
-use Rattle.frames.proofs.lines.move_to_front.Statement.{statement}
-use Rattle.frames.proofs.lines.move_to_front.Tie as tie
+use Rattle.frames.proofs.blocks.move_to_front.Statement.{statement}
+use Rattle.frames.proofs.blocks.move_to_front.Tie as tie
 
 abbrev Inv-loop : tie.InvT-loop
 Inv-loop bytes₀ from end n moved₀ bytes moved = Moving from end bytes₀ bytes moved × (moved ≤ end - from)
