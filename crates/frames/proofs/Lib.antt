@@ -6,6 +6,7 @@
 --   Refused     lines and frames that are longer than any frame
 --   Texts       texts answered in parts: nothing is lost, nothing answered twice
 --   Moving      bytes moved to the front
+--   Example     document 01's five lines, computed
 --
 -- How the functions are shown to meet their contracts: Stores and Runs are about bytes and numbers stored one behind the other,
 -- Encodings puts an answer together, Decodings is the table of calls, Cuts where a text is cut into lines, Tellings what one
@@ -16,6 +17,7 @@ pub mod Sizes
 pub mod Refused
 pub mod Texts
 pub mod Moving
+pub mod Example
 mod Stores
 mod Runs
 mod Encodings
