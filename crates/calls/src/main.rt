@@ -8,7 +8,8 @@ use libc::STDIN_FILENO;
 use libc::STDOUT_FILENO;
 use scheduler::QoSScheduler;
 
-// What a read found: where the input that is at hand ends now, whether it is the last, and whether reading failed.
+// What a read found: where the input that is at hand ends now, whether that is the end of all input, and whether reading
+// failed.
 struct Block {
     end: usize,
     is_last: bool,
@@ -34,7 +35,7 @@ fn main() {
         turns -= 1;
         let block = read_block(&mut input, held);
         let done = answer_all(state, &input, block.end, block.is_last);
-        if block.is_last || !done.is_written {
+        if block.is_last || block.is_failed || !done.is_written {
             report(block.is_failed, !done.is_written);
             return;
         }
@@ -44,7 +45,8 @@ fn main() {
     }
 }
 
-// Reads once, behind what is held already. A read that finds nothing, or fails, is the last.
+// Reads once, behind what is held already. A read that finds nothing is the end of the input; one that fails is not, so
+// that a line which it may have cut is not answered.
 fn read_block(input: &mut [u8], held: usize) -> Block
     requires { ⌜ held ≤ length (now input) ⌝ }
     ensures { λ r. ⌜ r .end ≤ length (now (input .exit)) ⌝ }
@@ -53,7 +55,7 @@ fn read_block(input: &mut [u8], held: usize) -> Block
     let n = io::count(got, &input[held..]);
     Block {
         end: held + n,
-        is_last: got <= 0,
+        is_last: got == 0,
         is_failed: got < 0,
     }
 }
