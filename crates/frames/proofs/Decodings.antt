@@ -4,14 +4,18 @@ use mathlib.Core.Path.{_≡_, refl, sym, ap, _∙_}
 use mathlib.Core.Bool.{Bool, true, false, cond}
 use mathlib.Core.List.{List, [], _∷_}
 use Prim.Native.Nat.{ℕ, zero, suc, _≤_, _<_}
+use native.Mathlib.Nat.{suc-inj}
 use native.Mathlib.Omega.{arith}
 use lib.Dec.{eqb}
 use lib.ListN.{length, getD, List·getD-eq-default}
-use borrow.Author.Tests.{eq-eqb, ne-eqb}
+use borrow.Author.Tests.{eqb-true, eq-eqb, ne-eqb}
 use Rattle.records.specs.declared.band.BandOption.{BandOption}
+use Rattle.records.proofs.Cases.{by-if}
+use Rattle.scheduler.specs.Accepted.{everyBelow}
 use Rattle.frames.specs.declared.decode.CallOption.{CallOption}
 use Rattle.frames.specs.declared.decode.CallOption.the-variants.{None}
-use Rattle.frames.specs.Frame.{frameLengths, frameLength, createIn, callsIn, frameCall}
+use Rattle.frames.specs.Frame.{argumentsLength, createIn, callsIn, frameCall}
+use Rattle.frames.proofs.Digits.{below}
 
 -- ---- the table of calls
 
@@ -36,21 +40,36 @@ create-as frame e = ap (λ b. createIn b frame) (sym e)
 
 -- ---- the length
 
-pub frame-when : (frame : List ℕ) → length frame ≡ frameLength (getD frame 0 0) → frameCall frame ≡ getD (callsIn frame) (getD frame 0 0) None
-unfolding frameCall
-frame-when frame e = ap (λ (b : Bool). cond b (getD (callsIn frame) (getD frame 0 0) None) None) (eq-eqb _ _ e)
+-- the lengths of whole frames, as the code has them
+abbrev lengths : List ℕ
+lengths = 30 ∷ 17 ∷ 9 ∷ 9 ∷ 9 ∷ 9 ∷ 9 ∷ 13 ∷ 9 ∷ 9 ∷ 13 ∷ 17 ∷ 5 ∷ 9 ∷ 9 ∷ 1 ∷ 9 ∷ []
 
-pub frame-unless : (frame : List ℕ) → (length frame ≡ frameLength (getD frame 0 0) → ⊥) → None ≡ frameCall frame
+lengths-are : (call : ℕ) → call < 17 → getD lengths call 0 ≡ suc (argumentsLength call)
+unfolding everyBelow
+lengths-are call h = eqb-true _ _ (below 17 (λ k. eqb (getD lengths k 0) (suc (argumentsLength k))) refl call h)
+
+pub frame-when : (frame : List ℕ) → 0 < length frame → getD frame 0 0 < 17 → length frame ≡ getD lengths (getD frame 0 0) 0
+    → frameCall frame ≡ getD (callsIn frame) (getD frame 0 0) None
 unfolding frameCall
-frame-unless frame ne = sym (ap (λ (b : Bool). cond b (getD (callsIn frame) (getD frame 0 0) None) None) (ne-eqb _ _ ne))
+frame-when [] some known e = absurd (omega (arith, some))
+frame-when (call ∷ arguments) some known e =
+    let is : length arguments ≡ argumentsLength call = suc-inj (e ∙ lengths-are call known) in
+    ap (λ (b : Bool). cond b (getD (callsIn (call ∷ arguments)) call None) None) (eq-eqb _ _ is)
+
+pub frame-unless : (frame : List ℕ) → 0 < length frame → getD frame 0 0 < 17 → (length frame ≡ getD lengths (getD frame 0 0) 0 → ⊥) → None ≡ frameCall frame
+unfolding frameCall
+frame-unless [] some known ne = absurd (omega (arith, some))
+frame-unless (call ∷ arguments) some known ne =
+    let is-not = ne-eqb (length arguments) (argumentsLength call) (λ e. ne (ap suc e ∙ sym (lengths-are call known))) in
+    sym (ap (λ (b : Bool). cond b (getD (callsIn (call ∷ arguments)) call None) None) is-not)
 
 pub frame-empty : (frame : List ℕ) → length frame ≡ 0 → None ≡ frameCall frame
-frame-empty frame e = frame-unless frame (λ is.
-    let zeroth : getD frame 0 0 ≡ 0 = List·getD-eq-default frame 0 (omega (arith, e)) in
-    let thirty : frameLength (getD frame 0 0) ≡ 30 = ap frameLength zeroth in
-    omega (arith, e, is, thirty))
+unfolding frameCall
+frame-empty [] e = refl
+frame-empty (call ∷ arguments) e = absurd (omega (arith, e))
 
 pub frame-unknown : (frame : List ℕ) → 0 < length frame → 17 ≤ getD frame 0 0 → None ≡ frameCall frame
-frame-unknown frame some past = frame-unless frame (λ is.
-    let none : frameLength (getD frame 0 0) ≡ 0 = List·getD-eq-default frameLengths 0 past in
-    omega (arith, some, is, none))
+unfolding frameCall
+frame-unknown [] some past = absurd (omega (arith, some))
+frame-unknown (call ∷ arguments) some past =
+    sym (by-if (λ (o : CallOption). o ≡ None) (eqb (length arguments) (argumentsLength call)) (λ _. sym (no-entry (call ∷ arguments) call past)) (λ _. refl))

@@ -41,7 +41,7 @@ pub value-none : (d : ℕ) → within 48 57 d ≡ false → within 97 102 d ≡ 
 value-none d n l = record { is = rw (n, l); small = omega arith }
 
 -- what a test finds of every number below a bound, it finds of each
-below : (n : ℕ) (test : ℕ → Bool) → everyBelow n test ≡ true → (i : ℕ) → i < n → test i ≡ true
+pub below : (n : ℕ) (test : ℕ → Bool) → everyBelow n test ≡ true → (i : ℕ) → i < n → test i ≡ true
 unfolding everyBelow
 below zero test e i h = absurd (omega arith)
 below (suc n) test e i h =

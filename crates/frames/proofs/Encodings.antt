@@ -20,10 +20,10 @@ use Rattle.scheduler.specs.declared.answer.Value.{Value}
 use Rattle.scheduler.specs.declared.answer.Value.the-variants as value
 use Rattle.scheduler.specs.Paper.{statusNumber, pickNumbers, slotNumber, targetNumbers, flagNumber, valueNumbers}
 use Rattle.frames.specs.Answer.{recordBytes, valueWidths, valueBytes, answerBytes}
-use Rattle.frames.specs.Bytes.{Puts, bytesOf, written}
+use Rattle.frames.specs.Bytes.{Puts, bytesOf, written, total}
 use Rattle.frames.proofs.Numbers.{length-bytesOf}
 use Rattle.frames.proofs.Runs.{run}
-use Rattle.frames.proofs.Sizes.{total, length-written, written-append, length-valueBytes, length-pick, answerBytes-are, length-answerBytes}
+use Rattle.frames.proofs.Sizes.{length-written, written-append, length-valueBytes, length-pick, answerBytes-are, length-answerBytes}
 use Rattle.frames.proofs.Stores.{sets-append}
 
 -- some bytes, and others behind them

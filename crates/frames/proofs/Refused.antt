@@ -1,28 +1,38 @@
 -- Lines that are no frame: what they are answered, and that every line longer than any frame's is one. Assumes nothing.
-use mathlib.Core.Bool.{true, false, _&&_, false≢true, and-eq-true-iff}
-use mathlib.Core.List.{List, [], _∷_, foldr}
+use mathlib.Core.Bool.{Bool, true, false, cond, _&&_, false≢true, and-eq-true-iff}
+use mathlib.Core.List.{List, [], _∷_}
 use mathlib.Core.Path.{_≡_, refl, ap}
-use Prim.Native.Nat.{ℕ, zero, suc, _*_, _≤_, _<_, max}
+use Prim.Native.Nat.{ℕ, _*_, _≤_, _<_}
 use native.Mathlib.Omega.{arith}
-use borrow.Author.Tests.{ne-eqb}
-use lib.ListN.{length, getD}
-use Rattle.records.proofs.Cases.{by-if}
+use borrow.Author.Tests.{ltb-true, ltb-false, leb-true, ne-eqb}
+use lib.Dec.{leb, ltb}
+use lib.ListN.{length, getD, List·getD-eq-default}
+use Rattle.records.proofs.Cases.{split, by-if}
+use Rattle.scheduler.specs.Accepted.{everyBelow}
 use Rattle.frames.specs.declared.decode.CallOption.{CallOption}
 use Rattle.frames.specs.declared.decode.CallOption.the-variants.{None}
-use Rattle.frames.specs.Frame.{frameLength, frameLengths, frameCall}
+use Rattle.frames.specs.Frame.{argumentWidths, argumentsLength, callsIn, frameCall}
+use Rattle.frames.specs.Bytes.{total}
+use Rattle.frames.proofs.Digits.{below}
 use Rattle.scheduler.specs.State.{State}
 use Rattle.frames.specs.Hex.{isDigit, isHex, fromHex, toHex}
 use Rattle.frames.specs.Lines.{newline, longestLine, lineCall, said, saidTo, lineText}
 
-getD-most : (l : List ℕ) (i : ℕ) → getD l i 0 ≤ foldr max 0 l
-getD-most [] i = omega arith
-getD-most (x ∷ l) zero = omega arith
-getD-most (x ∷ l) (suc i) = omega (arith, getD-most l i)
+-- no call has more arguments than create
+arguments-short : (call : ℕ) → argumentsLength call ≤ 29
+unfolding everyBelow
+arguments-short call =
+    split (λ (_ : Bool). argumentsLength call ≤ 29) (ltb call 17)
+    (λ known. leb-true _ _ (below 17 (λ k. leb (argumentsLength k) 29) refl call (ltb-true call 17 known)))
+    (λ past. let none = ap total (List·getD-eq-default argumentWidths [] (ltb-false call 17 past)) in omega (arith, none))
 
 -- a frame of more than 30 bytes
 pub long-frame : (frame : List ℕ) → 30 < length frame → frameCall frame ≡ None
 unfolding frameCall
-long-frame frame long = rw (ne-eqb (length frame) (frameLength (getD frame 0 0)) (λ e. omega (arith, getD-most frameLengths (getD frame 0 0)))) refl
+long-frame [] long = refl
+long-frame (call ∷ arguments) long =
+    ap (λ (b : Bool). cond b (getD (callsIn (call ∷ arguments)) call None) None)
+    (ne-eqb (length arguments) (argumentsLength call) (λ e. omega (arith, e, long, arguments-short call)))
 
 -- two digits a byte
 length-digits : (line : List ℕ) → isHex line ≡ true → length line ≡ 2 * length (fromHex line)

@@ -26,15 +26,11 @@ use Rattle.scheduler.specs.Step.{step}
 use Rattle.frames.specs.declared.decode.CallOption.{CallOption}
 use Rattle.frames.specs.declared.decode.CallOption.the-variants as call
 use Rattle.frames.specs.Answer.{recordWidths, recordBytes, valueWidths, valueBytes, answerBytes}
-use Rattle.frames.specs.Bytes.{bytesOf, written}
+use Rattle.frames.specs.Bytes.{bytesOf, written, total}
 use Rattle.frames.specs.Lines.{said, saidTo, lineCall}
 use Rattle.frames.proofs.Numbers.{length-bytesOf}
 
 -- ---- widths
-
-abbrev pub total : List ℕ → ℕ
-total [] = 0
-total (width ∷ widths) = width + total widths
 
 pub length-written : (widths numbers : List ℕ) → length widths ≡ length numbers → length (written widths numbers) ≡ total widths
 length-written [] numbers e = refl
@@ -64,7 +60,7 @@ as-many-plan previous target.Idle = refl
 as-many-plan previous (target.Task s cr3) = refl
 
 -- every value has a number for each of its widths
-as-many : (v : Value) → length (valueWidths v) ≡ length (valueNumbers v)
+pub as-many : (v : Value) → length (valueWidths v) ≡ length (valueNumbers v)
 as-many value.Nothing = refl
 as-many (value.Slot s) = refl
 as-many (value.Core c) = refl

@@ -33,6 +33,11 @@ written [] numbers = []
 written (width ∷ widths) [] = []
 written (width ∷ widths) (x ∷ numbers) = bytesOf width x ++ written widths numbers
 
+-- how many bytes they take
+abbrev pub total : List ℕ → ℕ
+total [] = 0
+total (width ∷ widths) = width + total widths
+
 -- r is the number that stands at a place, and so fits its width
 pub record IsNumber (at width : ℕ) (bytes : List ℕ) (r : ℕ) : Type 0 where
   pub is : r ≡ numberAt at width bytes

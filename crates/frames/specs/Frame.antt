@@ -12,16 +12,47 @@ use Rattle.records.specs.Band.{bandAt}
 use Rattle.scheduler.specs.declared.call.Call.the-variants.{Create, Affinity, Terminate, Block, Wake, Enqueue, Schedule, Tick, Yield, Handoff, Plan, CanRunOnCore, TaskIndexForTid, Task, CurrentTaskOnCpu, SystemTicksUs, Holder}
 use Rattle.frames.specs.declared.decode.CallOption.{CallOption}
 use Rattle.frames.specs.declared.decode.CallOption.the-variants.{None, Some}
-use Rattle.frames.specs.Bytes.{numberAt}
+use Rattle.frames.specs.Bytes.{numberAt, total}
 
--- "The first byte is the call"; each frame's length with it, from 00 to 10, and 0, which is no frame's, for unknown calls
-abbrev pub frameLengths : List ℕ
-frameLengths = 30 ∷ 17 ∷ 9 ∷ 9 ∷ 9 ∷ 9 ∷ 9 ∷ 13 ∷ 9 ∷ 9 ∷ 13 ∷ 17 ∷ 5 ∷ 9 ∷ 9 ∷ 1 ∷ 9 ∷ []
+-- "The first byte is the call; slots and cores take 8 bytes, elapsed 4." The widths of what follows it, from 00 to 10.
+abbrev pub argumentWidths : List (List ℕ)
+argumentWidths =
+    -- 00 create: tid 4, band 1, context 8, cr3 8, rsp0 8
+    (4 ∷ 1 ∷ 8 ∷ 8 ∷ 8 ∷ []) ∷
+    -- 01 affinity: slot, mask 8
+    (8 ∷ 8 ∷ []) ∷
+    -- 02 terminate, 03 block, 04 wake, 05 enqueue: slot
+    (8 ∷ []) ∷
+    (8 ∷ []) ∷
+    (8 ∷ []) ∷
+    (8 ∷ []) ∷
+    -- 06 schedule: core
+    (8 ∷ []) ∷
+    -- 07 tick: core, elapsed
+    (8 ∷ 4 ∷ []) ∷
+    -- 08 yield, 09 handoff: core
+    (8 ∷ []) ∷
+    (8 ∷ []) ∷
+    -- 0a plan: core, elapsed
+    (8 ∷ 4 ∷ []) ∷
+    -- 0b can_run_on_core: slot, core
+    (8 ∷ 8 ∷ []) ∷
+    -- 0c task_index_for_tid: tid 4
+    (4 ∷ []) ∷
+    -- 0d task: slot
+    (8 ∷ []) ∷
+    -- 0e current_task_on_cpu: core
+    (8 ∷ []) ∷
+    -- 0f system microseconds
+    [] ∷
+    -- 10 holder: slot
+    (8 ∷ []) ∷
+    []
 
-abbrev pub frameLength : ℕ → ℕ
-frameLength call = getD frameLengths call 0
+abbrev pub argumentsLength : ℕ → ℕ
+argumentsLength call = total (getD argumentWidths call [])
 
--- "slots and cores take 8 bytes, elapsed 4"; "tid 4", "context 8, cr3 8, rsp0 8", "mask 8"
+-- a slot and a tid at a place
 abbrev pub slotAt : ℕ → List ℕ → Slot
 slotAt at frame = record { 0 = numberAt at 8 frame }
 
@@ -33,7 +64,7 @@ abbrev pub createIn : BandOption → List ℕ → CallOption
 createIn band.None frame = None
 createIn (band.Some qos) frame = Some (Create (tidAt 1 frame) qos (numberAt 6 8 frame) (numberAt 14 8 frame) (numberAt 22 8 frame))
 
--- the calls that a frame could be, from 00 to 10
+-- the calls that a frame could be, from 00 to 10, each argument behind the one before
 abbrev pub callsIn : List ℕ → List CallOption
 callsIn frame =
     createIn (bandAt (numberAt 5 1 frame)) frame ∷
@@ -55,9 +86,10 @@ callsIn frame =
     Some (Holder (slotAt 1 frame)) ∷
     []
 
--- a frame has its call's length exactly
+-- no bytes are no frame ("A blank line is refusal 9"); else the call's arguments have their length exactly, and the call is known
 unfoldable pub frameCall : List ℕ → CallOption
-frameCall frame =
-    cond (eqb (length frame) (frameLength (getD frame 0 0)))
-    (getD (callsIn frame) (getD frame 0 0) None)
+frameCall [] = None
+frameCall (call ∷ arguments) =
+    cond (eqb (length arguments) (argumentsLength call))
+    (getD (callsIn (call ∷ arguments)) call None)
     None

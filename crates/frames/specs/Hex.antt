@@ -1,6 +1,6 @@
 -- Document 01, "Call frames": "A line is lower-case hexadecimal, two digits a byte".
 use mathlib.Core.Bool.{Bool, true, false, cond, _&&_, _||_}
-use mathlib.Core.List.{List, [], _∷_, _++_}
+use mathlib.Core.List.{List, [], _∷_}
 use Prim.Native.Nat.{ℕ, _+_, _-_, _*_, _/_, _%_, _<_}
 use mathlib.Core.Path.{_≡_}
 use lib.Dec.{leb}
@@ -41,7 +41,7 @@ unfoldable pub toHex : List ℕ → List ℕ
 toHex [] = []
 toHex (b ∷ bytes) = digitOf (b / 16) ∷ digitOf (b % 16) ∷ toHex bytes
 
--- r is what a digit stands for
+-- r is what a digit stands for, and so below 16
 pub record IsDigitValue (d r : ℕ) : Type 0 where
   pub is : r ≡ digitValue d
   pub small : r < 16

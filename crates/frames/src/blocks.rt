@@ -6,8 +6,8 @@ ghost use Rattle.frames.specs.Lines.{keptFrom};
 use crate::lines::LINE_MAX;
 use crate::lines::next_line;
 
-// From where input has to be kept for the next block, where a line begins at `at` that nothing closes yet: of a line that
-// is longer than any frame only so much is kept that it is still longer, since it is refused whatever follows.
+// From where input has to be kept for the next block: from `at` on. Only where a line begins there that no newline closes
+// and that is longer than any frame, so much is kept that it is still longer: it is refused whatever follows.
 pub fn kept_from(input: &[u8], at: usize) -> usize
     ensures { λ r. ⌜ r ≡ keptFrom (now (input .entry)) at ⌝ }
 {
@@ -21,7 +21,7 @@ pub fn kept_from(input: &[u8], at: usize) -> usize
     input.len() - (LINE_MAX + 1)
 }
 
-// The bytes from `from` up to `end`, as far as there are any, moved to the front, and their number.
+// The bytes from `from` up to `end`, as far as there are any, moved to the front, and their number; bytes behind them stay.
 pub fn move_to_front(bytes: &mut [u8], from: usize, end: usize) -> usize
     ensures { λ r. ⌜ Puts (part from (end - from) (now (bytes .entry))) 0 (now (bytes .entry)) (now (bytes .exit)) r ⌝ }
 {

@@ -21,6 +21,7 @@ const FRAME_LENGTHS: [usize; CALLS] = [30, 17, 9, 9, 9, 9, 9, 13, 9, 9, 13, 17, 
 pub enum CallOption {
     // Nothing: refusal 9, for a bad digit, an unknown call, a wrong length or a band above 2.
     None,
+    // The call, with its arguments.
     Some(Call),
 }
 

@@ -21,17 +21,32 @@ use scheduler::Status;
 use scheduler::TaskOption;
 use scheduler::Value;
 
-// The longest answer: status, pick, 01 and a record.
-pub const ANSWER_MAX: usize = 51;
-
 // Where the value stands in an answer: behind the status, the pick's slot and the pick's band.
-const VALUE_AT: usize = 3;
+pub(crate) const VALUE_AT: usize = 3;
 
-// What stands for no slot and no core.
+// How many bytes a record has.
+const RECORD_BYTES: usize = 47;
+
+// 01 and a record.
+const TASK_BYTES: usize = 1 + RECORD_BYTES;
+
+// 01, previous, target and cr3.
+const SWITCH_BYTES: usize = 11;
+
+// Where context, cr3, rsp0 and mask stand in a record: behind tid, band and state.
+const CONTEXT_AT: usize = 6;
+
+// Where budget, consumed and in use stand in a record: behind those.
+const TIMES_AT: usize = 38;
+
+// The longest answer: status, pick, 01 and a record.
+pub const ANSWER_MAX: usize = VALUE_AT + TASK_BYTES;
+
+// What stands for no slot, no band and no core.
 const NONE: u64 = 255;
 
-// The answer's bytes at the front of a buffer, and how many they are. A byte that has no place in the buffer is not
-// stored; ANSWER_MAX bytes have room for every answer.
+// The answer's bytes at the front of a buffer, and how many they are; bytes behind them stay. A byte that has no place in
+// the buffer is not stored; ANSWER_MAX bytes have room for every answer.
 pub fn write_answer(answer: Answer, out: &mut [u8]) -> usize
     ensures { λ r. ⌜ Puts (answerBytes answer) 0 (now (out .entry)) (now (out .exit)) r ⌝ }
 {
@@ -124,7 +139,7 @@ fn put_switch(switch: ContextSwitchPlan, out: &mut [u8]) -> usize
             put_number(out, VALUE_AT + 3, 8, 0);
         }
     }
-    11
+    SWITCH_BYTES
 }
 
 // 00, or 01 and the record.
@@ -136,7 +151,7 @@ fn put_task(task: TaskOption, out: &mut [u8]) -> usize
         TaskOption::Some(record) => {
             put_number(out, VALUE_AT, 1, 1);
             put_record(record, out, VALUE_AT + 1);
-            48
+            TASK_BYTES
         }
     }
 }
@@ -147,8 +162,8 @@ pub(crate) fn put_record(task: TaskControlBlock, out: &mut [u8], at: usize)
     ensures { λ _. ⌜ now (out .exit) ≡ sets (now (out .entry)) at (recordBytes task) ⌝ }
 {
     put_identity(task, out, at);
-    put_context(task, out, at + 6);
-    put_times(task, out, at + 38);
+    put_context(task, out, at + CONTEXT_AT);
+    put_times(task, out, at + TIMES_AT);
 }
 
 // tid, band, state

@@ -23,6 +23,7 @@ pub use decode::CallOption;
 pub use decode::read_frame;
 pub use encode::ANSWER_MAX;
 pub use encode::write_answer;
+pub use lines::ANSWER_LINE_MAX;
 pub use lines::Answered;
 pub use lines::Told;
 pub use lines::answer_line;

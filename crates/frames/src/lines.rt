@@ -9,6 +9,7 @@ use crate::bytes::put_number;
 use crate::decode::CallOption;
 use crate::decode::read_frame;
 use crate::encode::ANSWER_MAX;
+use crate::encode::VALUE_AT;
 use crate::encode::write_answer;
 use crate::hex::from_hex;
 use crate::hex::is_hex;
@@ -17,17 +18,22 @@ use scheduler::QoSScheduler;
 
 const NEWLINE: u8 = b'\n';
 
-// The answer to a line that is no frame: refusal 9, and ff ff for no pick.
+// The refusal of a line that is no frame.
 const NO_FRAME: u64 = 9;
 
+// ff ff, for no pick.
 const NO_PICK: u64 = 0xffff;
 
-// No frame has more bytes, and no line that stands for one more digits.
+// No frame has more bytes.
 const FRAME_MAX: usize = 30;
 
+// No line that stands for a frame has more digits.
 pub(crate) const LINE_MAX: usize = 2 * FRAME_MAX;
 
-// What a line was answered: the state after it, and how many bytes of the buffer the answer takes.
+// The longest answer as a line of text, with its newline.
+pub const ANSWER_LINE_MAX: usize = 2 * ANSWER_MAX + 1;
+
+// What a line was answered: the state after it, and how many bytes the answer has, also where the buffer is shorter.
 pub struct Told {
     pub state: QoSScheduler,
     pub length: usize,
@@ -41,8 +47,8 @@ pub struct Answered {
     pub written: usize,
 }
 
-// The line that begins at `at`, as that part of the input: up to the next newline, which is not in it, or to the end. A
-// line begins at every place before the end.
+// The line that begins at `at`, as that part of the input: up to the next newline, which is not in it, or to the end. At
+// the end and past it there is no line, and the part is empty.
 pub fn next_line(input: &[u8], at: usize) -> &[u8]
     ensures { λ r. ⌜ now r ≡ lineOf (drop at (now (input .entry))) ⌝ }
 {
@@ -72,7 +78,8 @@ pub fn read_line(line: &[u8]) -> CallOption
     read_frame(&frame[..n])
 }
 
-// A line's answer, as bytes at the front of a buffer. A line that is no frame changes nothing and is answered 09 ff ff.
+// A line's answer, as bytes at the front of a buffer; bytes behind them stay. A line that is no frame changes nothing and is
+// answered 09 ff ff. A byte that has no place in the buffer is not stored; ANSWER_MAX bytes have room for every answer.
 pub fn answer_line(state: QoSScheduler, line: &[u8], out: &mut [u8]) -> Told
     requires { ⌜ Valid state ⌝ }
     ensures { λ r. ⌜ Tells (now (line .entry)) state (now (out .entry)) (now (out .exit)) r ⌝ }
@@ -80,7 +87,10 @@ pub fn answer_line(state: QoSScheduler, line: &[u8], out: &mut [u8]) -> Told
     let CallOption::Some(call) = read_line(line) else {
         put_number(out, 0, 1, NO_FRAME);
         put_number(out, 1, 2, NO_PICK);
-        return Told { state, length: 3 };
+        return Told {
+            state,
+            length: VALUE_AT,
+        };
     };
     let reply = state.apply(call);
     let answer = reply.answer;
@@ -92,8 +102,9 @@ pub fn answer_line(state: QoSScheduler, line: &[u8], out: &mut [u8]) -> Told
     }
 }
 
-// The answers to a text's lines, each closed by a newline, at the front of a buffer: as many as have room. Where the text
-// is not the last, a line that no newline closes is left for when more of it is there.
+// The answers to a text's lines, each closed by a newline, at the front of a buffer, in order and as many as have room;
+// bytes behind them stay. Where the text is not the last, a line that no newline closes is left for when more of it is
+// there. ANSWER_LINE_MAX bytes have room for any one line's answer.
 pub fn answer_text(state: QoSScheduler, input: &[u8], last: bool, out: &mut [u8]) -> Answered
     requires { ⌜ Valid state ⌝ }
     ensures { λ r. ⌜ Answers last state (now (input .entry)) (now (out .entry)) (now (out .exit)) r ⌝ }

@@ -1,8 +1,9 @@
 // Replays stored lists of calls, with no Rust at hand, and compares each answer with the stored one, byte for byte.
 //
 // Standard input has one list behind the other. A line that begins with `=` names the list that follows, which starts
-// with a new scheduler; then every frame takes a line and its answer the next. oracle/README.md says how the lists were
-// made. The last line counts what was compared.
+// with a new scheduler; then every frame takes a line and its answer the next. A stored `.` stands for any digit: of a byte
+// that the Rust has no part in. oracle/README.md says how the lists were made. The last line counts what was compared.
+ghost use mathlib.Core.Path.{_≡_};
 ghost use Prim.Native.Nat.{_≤_};
 ghost use lib.ListN.{length};
 ghost use Rattle.scheduler.specs.Scheduler.{Valid};
@@ -10,11 +11,14 @@ use libc::STDIN_FILENO;
 use libc::STDOUT_FILENO;
 use scheduler::QoSScheduler;
 
-// No stored line is longer.
-const LINE_MAX: usize = 256;
+// No stored line is longer, and no answer's.
+const STORED_MAX: usize = 256;
 
 // What begins a list's name.
 const NAME: u8 = b'=';
+
+// What stands for any digit in a stored answer.
+const ANY: u8 = b'.';
 
 // Where a replay stands.
 struct Replay {
@@ -34,8 +38,8 @@ fn main() {
         calls: 0,
         differences: 0,
     };
-    let mut line = [0u8; LINE_MAX];
-    let mut answer = [0u8; LINE_MAX];
+    let mut line = [0u8; STORED_MAX];
+    let mut answer = [0u8; STORED_MAX];
     // counted down, since a proved loop has to end and nothing says that the input does
     let mut turns = u64::MAX;
     while 0 < turns {
@@ -70,8 +74,8 @@ fn read_line(line: &mut [u8]) -> usize
 
 // One line, with its newline: the stored answer to the last frame, or a list's name, or a frame.
 fn replay_line(replay: Replay, line: &[u8], answer: &mut [u8]) -> Replay
-    requires { ⌜ Valid (replay .state) ⌝ }
-    ensures { λ r. ⌜ Valid (r .state) ⌝ }
+    requires { ⌜ Valid (replay .state) × (replay .waiting ≤ length (now answer)) ⌝ }
+    ensures { λ r. ⌜ Valid (r .state) × (r .waiting ≤ length (now (answer .exit))) ⌝ }
 {
     if 0 < replay.waiting {
         return compared(replay, line, answer);
@@ -100,29 +104,52 @@ fn replay_line(replay: Replay, line: &[u8], answer: &mut [u8]) -> Replay
 }
 
 // The answer that waits, held against the stored one; a difference is printed with both.
-fn compared(replay: Replay, stored: &[u8], answer: &mut [u8]) -> Replay
-    requires { ⌜ Valid (replay .state) ⌝ }
-    ensures { λ r. ⌜ Valid (r .state) ⌝ }
+fn compared(replay: Replay, stored: &[u8], answer: &[u8]) -> Replay
+    requires { ⌜ Valid (replay .state) × (replay .waiting ≤ length (now answer)) ⌝ }
+    ensures { λ r. ⌜ Valid (r .state) × (r .waiting ≡ 0) ⌝ }
 {
     let waiting = replay.waiting;
     let state = replay.state;
+    let calls = std::num::wrapping_add_u64(replay.calls, 1);
     let mut differences = replay.differences;
-    if waiting <= answer.len() {
-        if !check::same(&answer[..waiting], stored) {
-            differences = std::num::wrapping_add_u64(differences, 1);
-            print(b"stored ");
-            print(stored);
-            print(b"found  ");
-            print(&answer[..waiting]);
-        }
+    if !is_as_stored(&answer[..waiting], stored) {
+        differences = std::num::wrapping_add_u64(differences, 1);
+        show_difference(replay.lists, calls, stored, &answer[..waiting]);
     }
     Replay {
         state,
         waiting: 0,
         lists: replay.lists,
-        calls: std::num::wrapping_add_u64(replay.calls, 1),
+        calls,
         differences,
     }
+}
+
+// Whether an answer is the stored one, byte for byte but where that leaves a byte open.
+fn is_as_stored(answer: &[u8], stored: &[u8]) -> bool {
+    if answer.len() != stored.len() {
+        return false;
+    }
+    let mut i = 0;
+    while i < answer.len() {
+        if answer[i] != stored[i] && stored[i] != ANY {
+            return false;
+        }
+        i += 1;
+    }
+    true
+}
+
+// The list and the call, both counted from 1, and the two answers, which end in newlines.
+fn show_difference(lists: u64, calls: u64, stored: &[u8], found: &[u8]) {
+    print(b"list ");
+    io::print_decimal(STDOUT_FILENO, lists);
+    print(b", call ");
+    io::print_decimal(STDOUT_FILENO, calls);
+    print(b": stored ");
+    print(stored);
+    print(b"found ");
+    print(found);
 }
 
 fn report(lists: u64, calls: u64, differences: u64) {

@@ -5,27 +5,21 @@ use lib.Seq.{length-take-le}
 use Rattle.replay.proofs.compared.Statement.{statement}
 use Rattle.replay.proofs.compared.Tie as tie
 
-slice-aggregate-same : tie.Need-slice-aggregate-same
-slice-aggregate-same c = sym (length-take-le _ _ (search needs))
+slice-aggregate-is-as-stored : tie.Need-slice-aggregate-is-as-stored
+slice-aggregate-is-as-stored c = sym (length-take-le _ _ (search needs))
 
-slice-aggregate-print-3 : tie.Need-slice-aggregate-print-3
-slice-aggregate-print-3 c = sym (length-take-le _ _ (search needs))
+slice-aggregate-show-difference : tie.Need-slice-aggregate-show-difference
+slice-aggregate-show-difference c = sym (length-take-le _ _ (search needs))
 
 pub compared-spec : {M : Type 1} → statement M
 compared-spec =
     tie.close
     (tie.spec
-    (λ c. search needs)
-    slice-aggregate-same
+    (λ c κs. search needs)
+    slice-aggregate-is-as-stored
     (λ c κs. search needs)
     (λ c κs. search needs)
-    (λ c. search needs)
-    (λ c κs. search needs)
-    (λ c κs. search needs)
-    (λ c. search needs)
+    slice-aggregate-show-difference
     (λ c κs. search needs)
     (λ c. search needs)
-    slice-aggregate-print-3
-    (λ c κs. search needs)
-    (λ c κs. search needs)
     (λ c. search needs))

@@ -1,5 +1,6 @@
 -- `main` ends: its turns are counted down. Assumes nothing.
 use mathlib.Core.Path.{_≡_, sym}
+use Prim.Native.Nat.{_≤_}
 use borrow.Author.Needs.{needs}
 use lib.ListN.{length}
 use lib.Seq.{length-take-le}
@@ -8,7 +9,7 @@ use Rattle.replay.proofs.main.Statement.{statement}
 use Rattle.replay.proofs.main.Tie as tie
 
 abbrev Inv-loop : tie.InvT-loop
-Inv-loop replay₀ line₀ answer₀ turns₀ replay line answer turns = Valid (replay .state) × (length line ≡ 256) × (length answer ≡ 256)
+Inv-loop replay₀ line₀ answer₀ turns₀ replay line answer turns = Valid (replay .state) × (length line ≡ 256) × (length answer ≡ 256) × (replay .waiting ≤ 256)
 
 abbrev μ-loop : tie.MeasureT-loop
 μ-loop replay₀ line₀ answer₀ turns₀ replay line answer turns = turns

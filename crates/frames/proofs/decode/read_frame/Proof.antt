@@ -20,13 +20,16 @@ returns-2 c =
 
 returns-3 : tie.Need-returns-3
 returns-3 c =
-    let at-args = c .before .before .before .before .before in
-    frame-unless (at-args .args .frame .now) (c .if3 .taken)
+    let at-if1 = c .before .before .before in
+    let at-args = at-if1 .before .before in
+    frame-unless (at-args .args .frame .now) (omega (arith, at-if1 .if1 .left)) (c .before .if2 .left) (c .if3 .taken)
 
 returns-4 : tie.Need-returns-4
 returns-4 c =
-    let at-args = c .before .before .before .before .before .before in
-    c .call-in .ensures ∙ sym (frame-when (at-args .args .frame .now) (c .before .if3 .left))
+    let at-if2 = c .before .before in
+    let at-if1 = at-if2 .before .before in
+    let at-args = at-if1 .before .before in
+    c .call-in .ensures ∙ sym (frame-when (at-args .args .frame .now) (omega (arith, at-if1 .if1 .left)) (at-if2 .if2 .left) (c .before .if3 .left))
 
 pub read-frame-spec : {M : Type 1} → statement M
 read-frame-spec =
