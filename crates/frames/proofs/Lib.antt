@@ -3,7 +3,7 @@
 --   Numbers     big-endian numbers: written and read back, over every width
 --   Digits      hexadecimal digits: written and read back
 --   Sizes       how many bytes an answer has
---   Refused     lines and frames that are longer than any frame
+--   Refused     lines that are no frame, those longer than any frame among them
 --   Texts       texts answered in parts: nothing is lost, nothing answered twice
 --   Moving      bytes moved to the front
 --   Example     document 01's five lines, computed

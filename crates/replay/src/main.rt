@@ -6,6 +6,7 @@
 ghost use mathlib.Core.Path.{_≡_};
 ghost use Prim.Native.Nat.{_≤_};
 ghost use lib.ListN.{length};
+ghost use Rattle.replay.specs.Stored.{asStored};
 ghost use Rattle.scheduler.specs.Scheduler.{Valid};
 use libc::STDIN_FILENO;
 use libc::STDOUT_FILENO;
@@ -126,7 +127,9 @@ fn compared(replay: Replay, stored: &[u8], answer: &[u8]) -> Replay
 }
 
 // Whether an answer is the stored one, byte for byte but where that leaves a byte open.
-fn is_as_stored(answer: &[u8], stored: &[u8]) -> bool {
+fn is_as_stored(answer: &[u8], stored: &[u8]) -> bool
+    ensures { λ r. ⌜ r ≡ asStored (now (answer .entry)) (now (stored .entry)) ⌝ }
+{
     if answer.len() != stored.len() {
         return false;
     }

@@ -1,0 +1,2 @@
+-- When an answer is as it was stored.
+pub mod Stored
