@@ -2,7 +2,7 @@
 -- and value.
 -- Assumes nothing.
 use mathlib.Core.Path.{_≡_, refl, sym, ap, _∙_}
-use mathlib.Core.List.{List, [], _∷_, _++_, append-assoc}
+use mathlib.Core.List.{List, [], _∷_, _++_}
 use Prim.Native.Nat.{ℕ, _+_}
 use native.Mathlib.Omega.{arith}
 use lib.ListN.{length}
@@ -21,7 +21,6 @@ use Rattle.scheduler.specs.declared.answer.Value.the-variants as value
 use Rattle.scheduler.specs.Paper.{statusNumber, pickNumbers, slotNumber, targetNumbers, flagNumber, valueNumbers}
 use Rattle.frames.specs.Answer.{recordBytes, valueWidths, valueBytes, answerBytes}
 use Rattle.frames.specs.Bytes.{Puts, bytesOf, written, total}
-use Rattle.frames.proofs.Numbers.{length-bytesOf}
 use Rattle.frames.proofs.Runs.{run}
 use Rattle.frames.proofs.Sizes.{length-written, written-append, length-valueBytes, length-pick, answerBytes-are, length-answerBytes}
 use Rattle.frames.proofs.Stores.{sets-append}

@@ -1,9 +1,8 @@
 -- Numbers stored one behind the other, each in its width: what a run of stores leaves is what `written` says.
 -- Assumes nothing.
-use mathlib.Core.Path.{_≡_, refl, sym, ap, _∙_}
-use mathlib.Core.List.{List, [], _∷_, _++_, append-nil}
+use mathlib.Core.Path.{_≡_, sym, ap, _∙_}
+use mathlib.Core.List.{List, [], _++_, append-nil}
 use Prim.Native.Nat.{ℕ, _+_}
-use lib.ListN.{length}
 use lib.Seq.{sets}
 use Rattle.frames.specs.Bytes.{bytesOf}
 use Rattle.frames.proofs.Numbers.{length-bytesOf}

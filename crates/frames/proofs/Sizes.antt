@@ -13,10 +13,7 @@ use Rattle.scheduler.specs.declared.answer.ContextSwitchTarget.{ContextSwitchTa
 use Rattle.scheduler.specs.declared.answer.ContextSwitchTarget.the-variants as target
 use Rattle.scheduler.specs.declared.answer.PickOption.{PickOption}
 use Rattle.scheduler.specs.declared.answer.PickOption.the-variants as pick
-use Rattle.scheduler.specs.declared.answer.PlanOption.{PlanOption}
 use Rattle.scheduler.specs.declared.answer.PlanOption.the-variants as plan
-use Rattle.scheduler.specs.declared.answer.Status.{Status}
-use Rattle.scheduler.specs.declared.answer.TaskOption.{TaskOption}
 use Rattle.scheduler.specs.declared.answer.TaskOption.the-variants as task
 use Rattle.scheduler.specs.declared.answer.Value.{Value}
 use Rattle.scheduler.specs.declared.answer.Value.the-variants as value

@@ -1,8 +1,8 @@
 -- What a line is told: its call, and the promise of `answer_line` from what was read, done and stored.
 -- Assumes nothing.
-use mathlib.Core.Path.{_≡_, refl, sym, ap, _∙_}
+use mathlib.Core.Path.{_≡_, sym, ap, _∙_}
 use mathlib.Core.Bool.{Bool, true, false, cond}
-use mathlib.Core.List.{List, [], _∷_, _++_}
+use mathlib.Core.List.{List, _++_}
 use Prim.Native.Nat.{ℕ, _/_, _≤_}
 use native.Mathlib.Omega.{arith}
 use lib.ListN.{length, take}
@@ -12,7 +12,6 @@ use Rattle.scheduler.specs.declared.scheduler.QoSScheduler.{QoSScheduler}
 use Rattle.scheduler.specs.declared.scheduler.Reply.{Reply}
 use Rattle.scheduler.specs.Scheduler.{abs, Valid, Meets}
 use Rattle.scheduler.specs.State.{State}
-use Rattle.scheduler.specs.Step.{step}
 use Rattle.frames.specs.declared.decode.CallOption.{CallOption}
 use Rattle.frames.specs.declared.decode.CallOption.the-variants.{None, Some}
 use Rattle.frames.specs.Answer.{answerBytes}

@@ -1,8 +1,6 @@
 -- `move_to_front` meets its contract: the loop keeps what is to be moved (`Moving`). Assumes nothing.
-use mathlib.Core.Path.{_≡_, refl}
 use Prim.Native.Nat.{_-_, _≤_}
 use native.Mathlib.Omega.{arith}
-use lib.ListN.{length}
 use Rattle.frames.proofs.Moving.{Moving, begins, turn, ends-at, ends-past}
 use borrow.Author.Needs.{needs}
 use Rattle.frames.proofs.blocks.move_to_front.Statement.{statement}

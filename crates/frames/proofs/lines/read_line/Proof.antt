@@ -1,5 +1,5 @@
 -- `read_line` meets its contract: nothing for a line that is too long or no digits; else what its bytes stand for. Assumes nothing.
-use mathlib.Core.Path.{sym, ap, _∙_}
+use mathlib.Core.Path.{sym, _∙_}
 use native.Mathlib.Omega.{arith}
 use borrow.Author.Tests.{not-true, not-false}
 use Rattle.frames.proofs.Refused.{long-line}
