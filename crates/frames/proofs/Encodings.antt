@@ -5,11 +5,9 @@ use mathlib.Core.Path.{_≡_, refl, sym, ap, _∙_}
 use mathlib.Core.List.{List, [], _∷_, _++_}
 use Prim.Native.Nat.{ℕ, _+_}
 use native.Mathlib.Omega.{arith}
-use lib.ListN.{length}
+use lib.ListN.{length, drop}
 use lib.Seq.{sets}
 use Rattle.records.specs.declared.task.TaskControlBlock.{TaskControlBlock}
-use Rattle.records.specs.Band.{bandCode}
-use Rattle.records.specs.State.{stateCode}
 use Rattle.scheduler.specs.declared.answer.Answer.{Answer}
 use Rattle.scheduler.specs.declared.answer.ContextSwitchPlan.{ContextSwitchPlan}
 use Rattle.scheduler.specs.declared.answer.ContextSwitchTarget.{ContextSwitchTarget}
@@ -18,9 +16,9 @@ use Rattle.scheduler.specs.declared.answer.PlanOption.the-variants as plan
 use Rattle.scheduler.specs.declared.answer.TaskOption.the-variants as task
 use Rattle.scheduler.specs.declared.answer.Value.{Value}
 use Rattle.scheduler.specs.declared.answer.Value.the-variants as value
-use Rattle.scheduler.specs.Paper.{statusNumber, pickNumbers, slotNumber, targetNumbers, flagNumber, valueNumbers}
-use Rattle.frames.specs.Answer.{recordBytes, valueWidths, valueBytes, answerBytes}
-use Rattle.frames.specs.Bytes.{Puts, bytesOf, written, total}
+use Rattle.scheduler.specs.Paper.{statusNumber, pickNumbers, slotNumber, targetNumbers, valueNumbers, recordNumbers}
+use Rattle.frames.specs.Answer.{recordWidths, recordBytes, recordPart, valueWidths, valueBytes, answerBytes}
+use Rattle.frames.specs.Bytes.{Puts, part, bytesOf, written, total}
 use Rattle.frames.proofs.Runs.{run}
 use Rattle.frames.proofs.Sizes.{length-written, written-append, length-valueBytes, length-pick, answerBytes-are, length-answerBytes}
 use Rattle.frames.proofs.Stores.{sets-append}
@@ -59,23 +57,19 @@ switch-put p {o = o} e is =
 
 -- ---- a record
 
-pub record-put : (t : TaskControlBlock) (o : List ℕ) {o₁ o₂ o₃ : List ℕ} (at : ℕ)
-    → o₁ ≡ sets o at (written (4 ∷ 1 ∷ 1 ∷ []) (t .tid .0 ∷ bandCode (t .qos) ∷ stateCode (t .state) ∷ []))
-    → o₂ ≡ sets o₁ (at + 6) (written (8 ∷ 8 ∷ 8 ∷ 8 ∷ []) (t .«context_handle» ∷ t .cr3 ∷ t .rsp0 ∷ t .«cpu_affinity» ∷ []))
-    → o₃ ≡ sets o₂ (at + 38) (written (4 ∷ 4 ∷ 1 ∷ []) (t .«slice_budget_us» ∷ t .«consumed_slice_us» ∷ flagNumber (t .«in_use») ∷ []))
-    → o₃ ≡ sets o at (recordBytes t)
+pub record-put : (t : TaskControlBlock) (o : List ℕ) {o₁ o₂ o₃ : List ℕ} (at : ℕ) → o₁ ≡ sets o at (recordPart 0 3 t) → o₂ ≡ sets o₁ (at + 6) (recordPart 3 4 t)
+    → o₃ ≡ sets o₂ (at + 38) (recordPart 7 3 t) → o₃ ≡ sets o at (recordBytes t)
 unfolding recordBytes
-record-put t o {o₁} {o₂} {o₃} at e₁ e₂ e₃ =
-    let identity : List ℕ = t .tid .0 ∷ bandCode (t .qos) ∷ stateCode (t .state) ∷ [] in
-    let context : List ℕ = t .«context_handle» ∷ t .cr3 ∷ t .rsp0 ∷ t .«cpu_affinity» ∷ [] in
-    let times : List ℕ = t .«slice_budget_us» ∷ t .«consumed_slice_us» ∷ flagNumber (t .«in_use») ∷ [] in
-    let n₁ = length-written (4 ∷ 1 ∷ 1 ∷ []) identity refl in
-    let n₂ = length-written (8 ∷ 8 ∷ 8 ∷ 8 ∷ []) context refl in
-    behind o at (at + 6) (written (4 ∷ 1 ∷ 1 ∷ []) identity) _ e₁ (ap (λ (n : ℕ). at + n) (sym n₁))
-    (behind o₁ (at + 6) (at + 38) (written (8 ∷ 8 ∷ 8 ∷ 8 ∷ []) context) (written (4 ∷ 4 ∷ 1 ∷ []) times) e₂ (omega (arith, n₂)) e₃)
+record-put t o {o₁} at e₁ e₂ e₃ =
+    let numbers = recordNumbers t in
+    let n₁ = length-written (part 0 3 recordWidths) (part 0 3 numbers) refl in
+    let n₂ = length-written (part 3 4 recordWidths) (part 3 4 numbers) refl in
+    behind o at (at + 6) (recordPart 0 3 t) _ e₁ (ap (λ (n : ℕ). at + n) (sym n₁))
+    (behind o₁ (at + 6) (at + 38) (recordPart 3 4 t) (recordPart 7 3 t) e₂ (omega (arith, n₂)) e₃)
     ∙ ap (sets o at)
-    (ap (λ (bytes : List ℕ). written (4 ∷ 1 ∷ 1 ∷ []) identity ++ bytes) (sym (written-append (8 ∷ 8 ∷ 8 ∷ 8 ∷ []) context (4 ∷ 4 ∷ 1 ∷ []) times refl))
-    ∙ sym (written-append (4 ∷ 1 ∷ 1 ∷ []) identity (8 ∷ 8 ∷ 8 ∷ 8 ∷ 4 ∷ 4 ∷ 1 ∷ []) (context ++ times) refl))
+    (ap (λ (bytes : List ℕ). recordPart 0 3 t ++ bytes)
+    (sym (written-append (part 3 4 recordWidths) (part 3 4 numbers) (part 7 3 recordWidths) (part 7 3 numbers) refl))
+    ∙ sym (written-append (part 0 3 recordWidths) (part 0 3 numbers) (drop 3 recordWidths) (drop 3 numbers) refl))
 
 -- "01 and the record"
 pub task-put : (t : TaskControlBlock) (o : List ℕ) {o₁ o₂ : List ℕ} → o₁ ≡ sets o 3 (bytesOf 1 1) → o₂ ≡ sets o₁ 4 (recordBytes t)

@@ -10,7 +10,7 @@ use Rattle.scheduler.specs.declared.answer.TaskOption.the-variants as task
 use Rattle.scheduler.specs.declared.answer.Value.{Value}
 use Rattle.scheduler.specs.declared.answer.Value.the-variants as value
 use Rattle.scheduler.specs.Paper.{paper, recordNumbers, valueNumbers}
-use Rattle.frames.specs.Bytes.{written}
+use Rattle.frames.specs.Bytes.{part, written}
 
 -- "A record is 47 bytes [..] tid 4, band 1, state 1, context 8, cr3 8, rsp0 8, mask 8, budget 4, consumed 4, in use 1"
 abbrev pub recordWidths : List ℕ
@@ -18,6 +18,10 @@ recordWidths = 4 ∷ 1 ∷ 1 ∷ 8 ∷ 8 ∷ 8 ∷ 8 ∷ 4 ∷ 4 ∷ 1 ∷ []
 
 unfoldable pub recordBytes : TaskControlBlock → List ℕ
 recordBytes t = written recordWidths (recordNumbers t)
+
+-- some of its numbers, from one on
+abbrev pub recordPart : ℕ → ℕ → TaskControlBlock → List ℕ
+recordPart from n t = written (part from n recordWidths) (part from n (recordNumbers t))
 
 -- "for plans 00, or 01, previous byte (ff none), target byte (ff idle), cr3 8 (0 if idle)"
 abbrev pub planWidths : PlanOption → List ℕ

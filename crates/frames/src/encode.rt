@@ -3,11 +3,9 @@ ghost use mathlib.Core.Path.{_≡_};
 ghost use mathlib.Core.List.{[], _∷_};
 ghost use Prim.Native.Nat.{_+_, _^_, _<_};
 ghost use lib.Seq.{sets};
-ghost use Rattle.frames.specs.Answer.{answerBytes, valueBytes, recordBytes};
+ghost use Rattle.frames.specs.Answer.{answerBytes, valueBytes, recordBytes, recordPart};
 ghost use Rattle.frames.specs.Bytes.{Puts, written};
 ghost use Rattle.scheduler.specs.Paper.{statusNumber, pickNumbers, slotNumber, coreNumber, flagNumber};
-ghost use Rattle.records.specs.Band.{bandCode};
-ghost use Rattle.records.specs.State.{stateCode};
 use crate::bytes::put_number;
 use records::SlotOption;
 use records::TaskControlBlock;
@@ -169,7 +167,7 @@ pub(crate) fn put_record(task: TaskControlBlock, out: &mut [u8], at: usize)
 // tid, band, state
 fn put_identity(task: TaskControlBlock, out: &mut [u8], at: usize)
     requires { ⌜ at + 6 < 2 ^ 64 ⌝ }
-    ensures { λ _. ⌜ now (out .exit) ≡ sets (now (out .entry)) at (written (4 ∷ 1 ∷ 1 ∷ []) (task .tid .0 ∷ bandCode (task .qos) ∷ stateCode (task .state) ∷ [])) ⌝ }
+    ensures { λ _. ⌜ now (out .exit) ≡ sets (now (out .entry)) at (recordPart 0 3 task) ⌝ }
 {
     let qos = task.qos;
     let state = task.state;
@@ -181,7 +179,7 @@ fn put_identity(task: TaskControlBlock, out: &mut [u8], at: usize)
 // context, cr3, rsp0, mask
 fn put_context(task: TaskControlBlock, out: &mut [u8], at: usize)
     requires { ⌜ at + 32 < 2 ^ 64 ⌝ }
-    ensures { λ _. ⌜ now (out .exit) ≡ sets (now (out .entry)) at (written (8 ∷ 8 ∷ 8 ∷ 8 ∷ []) (task .«context_handle» ∷ task .cr3 ∷ task .rsp0 ∷ task .«cpu_affinity» ∷ [])) ⌝ }
+    ensures { λ _. ⌜ now (out .exit) ≡ sets (now (out .entry)) at (recordPart 3 4 task) ⌝ }
 {
     put_number(out, at, 8, task.context_handle);
     put_number(out, at + 8, 8, task.cr3);
@@ -192,7 +190,7 @@ fn put_context(task: TaskControlBlock, out: &mut [u8], at: usize)
 // budget, consumed, in use
 fn put_times(task: TaskControlBlock, out: &mut [u8], at: usize)
     requires { ⌜ at + 9 < 2 ^ 64 ⌝ }
-    ensures { λ _. ⌜ now (out .exit) ≡ sets (now (out .entry)) at (written (4 ∷ 4 ∷ 1 ∷ []) (task .«slice_budget_us» ∷ task .«consumed_slice_us» ∷ flagNumber (task .«in_use») ∷ [])) ⌝ }
+    ensures { λ _. ⌜ now (out .exit) ≡ sets (now (out .entry)) at (recordPart 7 3 task) ⌝ }
 {
     put_number(out, at, 4, task.slice_budget_us as u64);
     put_number(out, at + 4, 4, task.consumed_slice_us as u64);

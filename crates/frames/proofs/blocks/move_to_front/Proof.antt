@@ -31,7 +31,10 @@ slice-write-bytes : tie.Need-slice-write-bytes Inv-loop μ-loop
 slice-write-bytes c = omega (arith, c .before .if1 .left, c .before .before .before .loop .inv .0 .as-long)
 
 loop-again : tie.Need-loop-again Inv-loop μ-loop
-loop-again c = (turn _ _ (c .before .before .before .loop .inv .0) (c .before .before .loop-test .taken) (omega (arith, c .before .if1 .left, c .before .before .before .loop .inv .0 .as-long)), omega (arith, c .before .before .loop-test .taken))
+loop-again c =
+    let at-test = c .before .before in
+    let so = at-test .before .loop .inv .0 in
+    (turn _ _ so (at-test .loop-test .taken) (omega (arith, c .before .if1 .left, so .as-long)), omega (arith, at-test .loop-test .taken))
 
 same-length-2 : tie.Need-same-length-2 Inv-loop μ-loop
 same-length-2 c = c .before .loop .inv .0 .as-long

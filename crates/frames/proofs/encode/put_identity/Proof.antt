@@ -13,7 +13,9 @@ returns c =
     let at-put-number2 = at-code2 .before .before .before .before in
     let at-code = at-put-number2 .before in
     let at-put-number = at-code .before .before .before .before in
-    run _ _ 4 _ _ (at-put-number .put-number .ensures) refl refl (run _ _ 1 _ _ (at-put-number2 .put-number2 .ensures) (at-code .code .ensures .is) (omega arith) (run-end _ _ 1 (at-put-number3 .put-number3 .ensures) (at-code2 .code2 .ensures)))
+    run _ _ 4 _ _ (at-put-number .put-number .ensures) refl refl
+    (run _ _ 1 _ _ (at-put-number2 .put-number2 .ensures) (at-code .code .ensures .is) (omega arith)
+    (run-end _ _ 1 (at-put-number3 .put-number3 .ensures) (at-code2 .code2 .ensures)))
 
 pub put-identity-spec : {M : Type 1} → statement M
 put-identity-spec =

@@ -12,7 +12,9 @@ returns c =
     let at-flag-number = at-put-number3 .before in
     let at-put-number2 = at-flag-number .before .before .before .before in
     let at-put-number = at-put-number2 .before .before .before .before .before in
-    run _ _ 4 _ _ (at-put-number .put-number .ensures) refl refl (run _ _ 4 _ _ (at-put-number2 .put-number2 .ensures) refl (omega arith) (run-end _ _ 1 (at-put-number3 .put-number3 .ensures) (at-flag-number .flag-number .ensures)))
+    run _ _ 4 _ _ (at-put-number .put-number .ensures) refl refl
+    (run _ _ 4 _ _ (at-put-number2 .put-number2 .ensures) refl (omega arith)
+    (run-end _ _ 1 (at-put-number3 .put-number3 .ensures) (at-flag-number .flag-number .ensures)))
 
 pub put-times-spec : {M : Type 1} → statement M
 put-times-spec =

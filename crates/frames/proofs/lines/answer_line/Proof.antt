@@ -12,7 +12,8 @@ returns c =
     let at-put-number = at-put-number2 .before .before .before .before in
     let at-enum-told = at-put-number .before .before in
     let at-read-line = at-enum-told .before .before in
-    tells-refused (sym (at-read-line .read-line .ensures) ∙ at-enum-told .enum-told .given .1) (search needs) (run _ _ 1 _ _ (at-put-number .put-number .ensures) refl refl (at-put-number2 .put-number2 .ensures))
+    tells-refused (sym (at-read-line .read-line .ensures) ∙ at-enum-told .enum-told .given .1) (search needs)
+    (run _ _ 1 _ _ (at-put-number .put-number .ensures) refl refl (at-put-number2 .put-number2 .ensures))
 
 returns-2 : tie.Need-returns-2
 returns-2 c =

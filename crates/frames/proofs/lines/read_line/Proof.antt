@@ -27,7 +27,8 @@ returns-3 c =
     let at-is-hex = at-if2 .before in
     let at-if1 = at-is-hex .before in
     let at-args = at-if1 .before .before in
-    c .read-frame .ensures ∙ line-when (at-args .args .line .now) (sym (at-is-hex .is-hex .ensures) ∙ not-false _ (at-if2 .if2 .left)) (read-back (at-args .args .line .now) _ (at-from-hex .from-hex .ensures) (omega (arith, at-if1 .if1 .left)))
+    c .read-frame .ensures ∙ line-when (at-args .args .line .now) (sym (at-is-hex .is-hex .ensures) ∙ not-false _ (at-if2 .if2 .left))
+    (read-back (at-args .args .line .now) _ (at-from-hex .from-hex .ensures) (omega (arith, at-if1 .if1 .left)))
 
 pub read-line-spec : {M : Type 1} → statement M
 read-line-spec =
