@@ -1,5 +1,6 @@
 //! Numbers that look random and come out the same for the same seed and list, on every machine (splitmix64).
 
+#[derive(Clone)]
 pub struct Dice {
     state: u64,
 }

@@ -28,6 +28,8 @@ pub struct List {
     pub stopped: bool,
     /// What the state was like where the drawn calls ended.
     pub sights: Sights,
+    /// The list's dice behind its last line, for what else is to be drawn with it.
+    pub dice: Dice,
 }
 
 pub struct Line {
@@ -55,7 +57,7 @@ pub fn list(seed: u64, number: u64, form: &Form) -> List {
     if form.last_picture {
         drawing.picture();
     }
-    List { mood: mood.name, lines: drawing.lines, stopped, sights }
+    List { mood: mood.name, lines: drawing.lines, stopped, sights, dice: aim.dice }
 }
 
 struct Drawing {

@@ -1,5 +1,7 @@
-//! The comparison of one answer with the Rust's, by field. What our answers gain later, and the Rust has no part in,
-//! is a field left aside: an entry of the table below, and nothing else.
+//! Our answers by field: compared with the Rust's, and written from the Rust's for the stored lists. What our answers
+//! gain later, and the Rust has no part in, is a field left aside: an entry of the table below.
+
+use crate::frames::Call;
 
 /// A field of our answers.
 #[derive(Clone, Copy)]
@@ -36,6 +38,9 @@ const fn aside(name: &'static str, width: usize) -> Field {
 /// What every answer begins with. A refusal ends with it.
 const HEAD: [Field; 3] = [compared("status", 1), compared("pick's slot", 1), compared("pick's band", 1)];
 
+/// What stands behind the last field, however much that is. In an answer that is right it is empty.
+const END: Field = compared("the answer's end", usize::MAX / 2);
+
 const PLAN: &[Field] = &[leads("plan"), compared("previous", 1), compared("target", 1), compared("cr3", 8)];
 
 const RECORD: &[Field] = &[
@@ -53,7 +58,7 @@ const RECORD: &[Field] = &[
 ];
 
 /// The fields of our answer's value, at the call's number.
-pub const VALUES: [&[Field]; 17] = [
+const VALUES: [&[Field]; 17] = [
     &[compared("slot", 1)],    // create
     &[],                       // affinity
     &[],                       // terminate
@@ -73,6 +78,11 @@ pub const VALUES: [&[Field]; 17] = [
     &[compared("core", 1)],    // holder
 ];
 
+/// The fields of the value that a call is answered with; none for a line that is no frame.
+pub fn value_of(call: Option<&Call>) -> &'static [Field] {
+    call.map_or(&[], |call| VALUES[usize::from(call.number)])
+}
+
 /// The first field in which our answer is not the Rust's, with the Rust's digits and ours.
 #[derive(Debug, PartialEq, Eq)]
 pub struct Difference {
@@ -81,28 +91,44 @@ pub struct Difference {
     pub found: String,
 }
 
-/// Compares two answers as lines of digits. The value's fields are `VALUES` of the call; none for a line that is no frame.
+/// Compares two answers as lines of digits. The value's fields are `value_of` the call.
 pub fn difference(value: &[Field], expected: &[u8], found: &[u8]) -> Option<Difference> {
-    let (mut rust, mut ours) = (expected, found);
-    let refused = !expected.starts_with(b"00");
-    let value = if refused { &[] } else { value };
-    for field in HEAD.iter().chain(value) {
+    let mut ours = found;
+    for (field, rust_part) in laid_out(value, expected) {
         let our_part = taken(&mut ours, field.width);
-        if field.part == Part::Aside {
-            if !is_bytes(our_part, field.width) {
-                return Some(told(field.name, b"any", our_part));
-            }
-            continue;
+        match rust_part {
+            Some(rust_part) if our_part != rust_part => return Some(told(field.name, rust_part, our_part)),
+            None if !is_bytes(our_part, field.width) => return Some(told(field.name, b"any", our_part)),
+            _ => {}
         }
-        let rust_part = taken(&mut rust, field.width);
-        if our_part != rust_part {
-            return Some(told(field.name, rust_part, our_part));
-        }
-        if field.part == Part::Leads && rust_part == b"00" {
+    }
+    None
+}
+
+/// Our answer where the Rust's is this one, with two dots for each byte that is left aside: what it is, the Rust cannot
+/// say. No answer has a dot, so that one can be taken for any digit.
+pub fn dotted(value: &[Field], rust: &str) -> String {
+    let text = |(field, digits): (Field, Option<&[u8]>)| match digits {
+        Some(digits) => String::from_utf8_lossy(digits).into_owned(),
+        None => "..".repeat(field.width),
+    };
+    laid_out(value, rust.as_bytes()).into_iter().map(text).collect()
+}
+
+/// The fields of our answer where the Rust's is this one, each with the Rust's digits, or none where it is left aside.
+fn laid_out<'a>(value: &[Field], mut rust: &'a [u8]) -> Vec<(Field, Option<&'a [u8]>)> {
+    let refused = !rust.starts_with(b"00");
+    let value = if refused { &[] } else { value };
+    let mut parts = Vec::with_capacity(HEAD.len() + value.len() + 1);
+    for &field in HEAD.iter().chain(value) {
+        let digits = (field.part != Part::Aside).then(|| taken(&mut rust, field.width));
+        parts.push((field, digits));
+        if field.part == Part::Leads && digits == Some(b"00") {
             break;
         }
     }
-    (rust != ours).then(|| told("the answer's end", rust, ours))
+    parts.push((END, Some(rust)));
+    parts
 }
 
 /// Takes a field's digits off the front, or all that is left where the line is too short.
@@ -164,5 +190,22 @@ mod tests {
         assert_eq!(field_of(&value, "00ffff0506", "00ffff05000000000000000G06"), Some("total"));
         assert_eq!(field_of(&[aside("was waiting", 1)], "00ffff", "00ffff"), Some("was waiting"));
         assert_eq!(field_of(&value, "01ffff", "01ffff"), None);
+    }
+    #[test]
+    fn a_field_left_aside_is_written_as_dots() {
+        let value = [compared("slot", 1), aside("total", 8), compared("more", 1)];
+        assert_eq!(dotted(&value, "00ffff0506"), "00ffff05................06");
+        assert_eq!(dotted(&[aside("was waiting", 1)], "00ffff"), "00ffff..");
+        assert_eq!(dotted(&value, "01ffff"), "01ffff", "a refusal has no value");
+        let led = [leads("plan"), compared("target", 1), aside("more", 1)];
+        assert_eq!(dotted(&led, "00ffff0105"), "00ffff0105..");
+        assert_eq!(dotted(&led, "00ffff00"), "00ffff00", "it ends there");
+    }
+
+    #[test]
+    fn an_answer_with_nothing_left_aside_is_written_as_it_is() {
+        for (value, line) in [(VALUES[0], "00ffff05"), (VALUES[2], "03ffff"), (PLAN, "00ffff00"), (&[], "09ffff")] {
+            assert_eq!(dotted(value, line), line);
+        }
     }
 }

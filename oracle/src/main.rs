@@ -2,7 +2,7 @@
 //!
 //!   frames, answers               document 01's lines: calls read from them, answers written to them
 //!   driver                        the Rust behind them, with the picks and holders that it does not report
-//!   fields                        two answers compared by field
+//!   fields                        answers by field: two compared, and the Rust's written with room for ours
 //!   dice, moods, aim, spoil, draw random lists
 //!   compare, coverage             the comparison, and what it reached
 //!   named, store                  lists that are kept with their answers

@@ -2,10 +2,12 @@
 //!
 //! A line of the file is a frame, with spaces where they help reading; `""` stands for a blank line, `\r` for a carriage
 //! return, and what follows `#` is a remark. `=> ANSWER` behind a frame is the paper's answer, and the Rust's must be the
-//! same. A line `outside` says that the next call is outside demand 2's domain: from there on the Rust is not asked, and
-//! every frame needs the paper's answer.
+//! same; fields left aside are not in it. A line `outside` says that the next call is outside demand 2's domain: from
+//! there on the Rust is not asked, and every frame needs the paper's answer, which is our whole answer there.
 
 use crate::driver::Driver;
+use crate::fields::{dotted, value_of};
+use crate::frames::Call;
 
 /// The frames and answers of a named list, or what is wrong with it.
 pub fn answered(text: &str) -> Result<Vec<(String, String)>, String> {
@@ -25,7 +27,10 @@ pub fn answered(text: &str) -> Result<Vec<(String, String)>, String> {
             }
         }
     }
-    Ok(lines)
+    match reader.domain {
+        Domain::AtItsEdge => Err("no call stands behind the line 'outside'".into()),
+        _ => Ok(lines),
+    }
 }
 
 struct Reader {
@@ -47,7 +52,7 @@ impl Reader {
             let rust = self.rust.answer_line(frame.as_bytes()).map_err(outside)?.line();
             return match paper {
                 Some(paper) if paper != rust => Err(format!("the paper answers {paper}, the Rust {rust}")),
-                _ => Ok(rust),
+                _ => Ok(dotted(value_of(Call::read(frame.as_bytes()).as_ref()), &rust)),
             };
         }
         if let Domain::AtItsEdge = self.domain {
@@ -83,5 +88,20 @@ mod tests {
     #[test]
     fn outside_is_where_the_domain_ends() {
         assert!(answered("outside\n0f => 00 ffff 0000000000000000").unwrap_err().contains("inside"));
+    }
+
+    #[test]
+    fn a_call_must_stand_behind_outside() {
+        for text in ["outside", "0f\noutside\n", "outside # the end\n\n# no call\n"] {
+            assert!(answered(text).unwrap_err().contains("no call"), "{text:?}");
+        }
+    }
+
+    #[test]
+    fn outside_the_domain_the_answer_is_the_files() {
+        let to_the_edge = "00 00000007 00 0000000000000001 0000000000000000 0000000000000000\n\
+            05 0000000000000000\n06 0000000000000000\n07 0000000000000000 00000001\noutside\n";
+        let lines = answered(&format!("{to_the_edge}07 0000000000000000 ffffffff => 00 0000 00 ..")).unwrap();
+        assert_eq!(lines.last().unwrap().1, "00000000..");
     }
 }
