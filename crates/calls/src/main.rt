@@ -1,8 +1,9 @@
 // Answers frames: a line of standard input is a call, a line of standard output its answer. It starts with a new scheduler
 // and goes on to the end of the input, whatever the lines hold; answers are written before more input is waited for.
 ghost use Prim.Native.Nat.{_≤_};
-ghost use lib.ListN.{length};
+ghost use lib.ListN.{length, take};
 ghost use Rattle.scheduler.specs.Scheduler.{Valid};
+ghost use Rattle.calls.specs.Program.{Reads, AnswersAll, Keeps};
 use libc::STDERR_FILENO;
 use libc::STDIN_FILENO;
 use libc::STDOUT_FILENO;
@@ -26,7 +27,8 @@ struct Progress {
 fn main() {
     let mut state = QoSScheduler::new();
     let mut input = io::large_buffer();
-    // how many bytes at the front of the input are left from before: a line that is not closed yet
+    // how many bytes at the front of the input are left from before, at most 61: a line that is not closed yet, or the end
+    // of one that is longer than any frame
     let mut held = 0;
     // A proved loop has to end, and nothing says that the input does: so it counts its turns down, from a number that no
     // run uses up.
@@ -45,11 +47,11 @@ fn main() {
     }
 }
 
-// Reads once, behind what is held already. A read that finds nothing is the end of the input; one that fails is not, so
-// that a line which it may have cut is not answered.
+// Reads once, behind what is held already, which stays as it is. A read that finds nothing is the end of the input; one
+// that fails is not, so that a line which it may have cut is not answered; any other brings something, where there is room.
 fn read_block(input: &mut [u8], held: usize) -> Block
     requires { ⌜ held ≤ length (now input) ⌝ }
-    ensures { λ r. ⌜ r .end ≤ length (now (input .exit)) ⌝ }
+    ensures { λ r. ⌜ Reads held (now (input .entry)) (now (input .exit)) r ⌝ }
 {
     let got = libc::read(STDIN_FILENO, &mut input[held..]);
     let n = io::count(got, &input[held..]);
@@ -60,11 +62,12 @@ fn read_block(input: &mut [u8], held: usize) -> Block
     }
 }
 
-// Answers every line of the input up to its end that is closed, and the last one too where the input is the last.
+// Answers every line of the input up to its end that is closed, and the last one too where the input is the last: says the
+// state then and how much is used, or that an answer could not be written.
 fn answer_all(state: QoSScheduler, input: &[u8], end: usize, is_last: bool) -> Progress
     requires { ⌜ Valid state ⌝ }
     requires { ⌜ end ≤ length (now input) ⌝ }
-    ensures { λ r. ⌜ Valid (r .state) ⌝ }
+    ensures { λ r. ⌜ AnswersAll «is_last» state (take end (now (input .entry))) r ⌝ }
 {
     let mut out = io::large_buffer();
     let mut state = state;
@@ -96,7 +99,7 @@ fn answer_all(state: QoSScheduler, input: &[u8], end: usize, is_last: bool) -> P
 // What is not used yet goes to the front, as far as it has to be kept; says how much that is.
 fn keep_rest(input: &mut [u8], used: usize, end: usize) -> usize
     requires { ⌜ end ≤ length (now input) ⌝ }
-    ensures { λ r. ⌜ r ≤ length (now (input .exit)) ⌝ }
+    ensures { λ r. ⌜ Keeps (take end (now (input .entry))) used (now (input .entry)) (now (input .exit)) r ⌝ }
 {
     let from = frames::kept_from(&input[..end], used);
     frames::move_to_front(input, from, end)

@@ -1,10 +1,11 @@
 -- The answers to a text are the answer to its first line, then those to what is behind it, as long as each line is there and its answer has room.
 -- Assumes nothing.
 use mathlib.Core.Bool.{Bool, true, false, cond, _&&_, _||_, and-false, and-eq-true-iff}
-use mathlib.Core.List.{List, [], _∷_, _++_}
+use mathlib.Core.List.{List, [], _∷_, _++_, append-assoc}
 use mathlib.Core.Logic.{_⊎_}
 use mathlib.Core.Path.{_≡_, refl, sym, ap, _∙_, subst}
 use Prim.Native.Nat.{ℕ, _+_, _-_, _≤_, _<_}
+use native.Mathlib.Nat.{zero-add, add-assoc}
 use native.Mathlib.Omega.{arith}
 use borrow.Author.Tests.{ltb-true, ltb-false, leb-true, lt-ltb, le-ltb, le-leb, lt-leb}
 use lib.Dec.{leb}
@@ -12,7 +13,7 @@ use lib.ListN.{length, take, length-append}
 use lib.Seq.{length-take-le}
 use Rattle.records.proofs.Cases.{by-if}
 use Rattle.scheduler.specs.State.{State}
-use Rattle.frames.specs.Lines.{lineOf, Said, saidTo, lineText, pieces, closed, answerTo, stateAfter, answersTo, Reached, stop, first, answered}
+use Rattle.frames.specs.Lines.{lineOf, Said, saidTo, lineText, pieces, closed, answerTo, stateAfter, answersTo, Reached, stop, first, answered, answeredAll}
 use Rattle.frames.proofs.Cuts.{test, pieceEnd, rest, end-is, pieces-cut, line-of-piece, by-pieces, cut-more}
 
 -- ---- all answers
@@ -36,6 +37,15 @@ answersTo-more text more s some ends =
     answersTo-first (text ++ more) (omega (arith, length-append text more)) s
     ∙ (λ i. let answer : Said = saidTo (same .0 i) s in lineText (answer .bytes) ++ answersTo (answer .state) (pieces (same .1 i)))
 
+-- ---- first some, then the rest
+
+pub first-none : (r : Reached) → r ≡ first [] 0 r
+first-none r = λ i. record { text = r .text; used = sym (zero-add (r .used)) i; state = r .state }
+
+pub first-first : (a b : List ℕ) (m n : ℕ) (r : Reached) → first a m (first b n r) ≡ first (a ++ b) (m + n) r
+first-first a b m n r =
+    λ i. record { text = sym (append-assoc a b (r .text)) i; used = sym (add-assoc m n (r .used)) i; state = r .state }
+
 -- ---- as many as have room
 
 -- whether the first line is answered, and what is reached then
@@ -45,6 +55,10 @@ module _ (last : Bool) (text : List ℕ) (room : ℕ) (s : State) where
 
   abbrev pub onward : Reached
   onward = first (answerTo text s) (pieceEnd text) (answered last (room - length (answerTo text s)) (stateAfter text s) (pieces (rest text)))
+
+-- what is reached where there is room for all
+abbrev pub onward-all : Bool → List ℕ → State → Reached
+onward-all last text s = first (answerTo text s) (pieceEnd text) (answeredAll last (stateAfter text s) (pieces (rest text)))
 
 module _ (text : List ℕ) (some : 0 < length text) where
   abbrev piece : List ℕ
@@ -58,6 +72,16 @@ module _ (text : List ℕ) (some : 0 < length text) where
       test (closed text)
       (λ e. lt-ltb (length (lineOf piece)) (length piece) (omega (arith, ltb-true, length-piece, end-is text, ap length (line-of-piece text))) ∙ sym e)
       (λ e. le-ltb (length (lineOf piece)) (length piece) (omega (arith, ltb-false, length-piece, end-is text, ap length (line-of-piece text))) ∙ sym e)
+
+  all-first : (last : Bool) (s : State) → answeredAll last s (pieces text) ≡ cond (last || closed text) (onward-all last text s) (stop s)
+  unfolding answeredAll answerTo stateAfter
+  all-first last s =
+      ap (answeredAll last s) (pieces-cut text some)
+      ∙ (λ i.
+      let answer : Said = saidTo (line-of-piece text i) s in
+      cond (last || closed-piece i)
+      (first (lineText (answer .bytes)) (length-piece i) (answeredAll last (answer .state) (pieces (rest text))))
+      (stop s))
 
   answered-first : (last : Bool) (room : ℕ) (s : State) → answered last room s (pieces text) ≡ cond (goes last text room s) (onward last text room s) (stop s)
   unfolding answered answerTo stateAfter
@@ -88,6 +112,14 @@ module _ (last : Bool) (text : List ℕ) (room : ℕ) (s : State) where
 
   pub held-room : room < length (answerTo text s) → answered last room s (pieces text) ≡ stop s
   held-room small = answered-held last text room s ((λ i. (last || closed text) && lt-leb _ _ small i) ∙ and-false (last || closed text))
+
+-- the same where there is room for all
+module _ (last : Bool) (text : List ℕ) (s : State) where
+  pub all-on : 0 < length text → last || closed text ≡ true → answeredAll last s (pieces text) ≡ onward-all last text s
+  all-on some due = all-first text some last s ∙ ap (λ (t : Bool). cond t (onward-all last text s) (stop s)) due
+
+  pub all-held : 0 < length text → last || closed text ≡ false → answeredAll last s (pieces text) ≡ stop s
+  all-held some held = all-first text some last s ∙ ap (λ (t : Bool). cond t (onward-all last text s) (stop s)) held
 
 -- along the lines that are answered
 module _ (last : Bool) (P : ℕ → State → List ℕ → Reached → Type 0)

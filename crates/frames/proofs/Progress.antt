@@ -1,10 +1,10 @@
 -- The loop of `answer_text`: each turn answers one line, and stores the answer behind those before it. Assumes nothing.
 use mathlib.Core.Bool.{Bool, true, false, not, _||_, or-true}
-use mathlib.Core.List.{List, [], _∷_, _++_, append-assoc, append-nil}
+use mathlib.Core.List.{List, [], _∷_, _++_, append-nil}
 use mathlib.Core.Logic.{_⊎_, inl, inr}
 use mathlib.Core.Path.{_≡_, refl, sym, ap, _∙_}
 use Prim.Native.Nat.{ℕ, _+_, _-_, _*_, _≤_, _<_, min}
-use native.Mathlib.Nat.{zero-add, add-zero, add-assoc, sub-zero}
+use native.Mathlib.Nat.{add-zero, sub-zero}
 use native.Mathlib.Omega.{arith}
 use borrow.Author.Tests.{not-true, not-false, eqb-true, eqb-false, lt-ltb, le-ltb}
 use lib.Dec.{eqb}
@@ -18,7 +18,7 @@ use Rattle.frames.specs.Hex.{toHex}
 use Rattle.frames.specs.Lines.{newline, lineOf, saidTo, lineText, pieces, closed, answerTo, stateAfter, Reached, stop, first, answered, Tells, Answers}
 use Rattle.frames.proofs.Cuts.{line-within, pieceEnd, rest, end-is}
 use Rattle.frames.proofs.Digits.{length-toHex}
-use Rattle.frames.proofs.Onward.{answered-on, held-line, held-room}
+use Rattle.frames.proofs.Onward.{first-none, first-first, answered-on, held-line, held-room}
 use Rattle.frames.proofs.Sizes.{said-fits}
 use Rattle.frames.proofs.Stores.{sets-append, take-sets}
 use Rattle.frames.proofs.Texts.{length-lineText}
@@ -46,13 +46,6 @@ module _ {line before after : List ℕ} {s : QoSScheduler} {r : Told} (t : Tells
     told-length = t .length-is ∙ sym (ap length told-bytes)
 
 -- ---- some answers
-
-first-none : (r : Reached) → r ≡ first [] 0 r
-first-none r = λ i. record { text = r .text; used = sym (zero-add (r .used)) i; state = r .state }
-
-first-first : (a b : List ℕ) (m n : ℕ) (r : Reached) → first a m (first b n r) ≡ first (a ++ b) (m + n) r
-first-first a b m n r =
-    λ i. record { text = sym (append-assoc a b (r .text)) i; used = sym (add-assoc m n (r .used)) i; state = r .state }
 
 first-stop : (a : List ℕ) (n : ℕ) (s : State) → first a n (stop s) ≡ record { text = a; used = n; state = s }
 first-stop a n s = λ i. record { text = append-nil a i; used = add-zero n i; state = s }

@@ -1,5 +1,5 @@
 -- Document 01, "Call frames": text of lines, and the text of its answers.
-use mathlib.Core.Bool.{Bool, cond, _&&_, _||_}
+use mathlib.Core.Bool.{Bool, true, false, cond, _&&_, _||_}
 use mathlib.Core.List.{List, [], _∷_, _++_}
 use mathlib.Core.Path.{_≡_}
 use Prim.Native.Nat.{ℕ, _+_, _-_, _≤_}
@@ -37,12 +37,13 @@ pub record Said : Type 0 where
   pub bytes : List ℕ
   pub state : State
 
--- a frame that is refused changes no state; its answer is the refusal and no pick
+-- A frame that is refused: 9, "bad digit, unknown call, wrong length, band above 2", and "pick slot and pick band (ff ff for none)". "Refused: no
+-- value." "A refusal changes no state."
 abbrev pub said : CallOption → State → Said
 said None s = record { bytes = 9 ∷ noneByte ∷ noneByte ∷ []; state = s }
 said (Some call) s = record { bytes = answerBytes (step call s .answer); state = step call s .state }
 
--- "answers a line a frame"
+-- what a line makes of a state
 unfoldable pub saidTo : List ℕ → State → Said
 saidTo line s = said (lineCall line) s
 
@@ -62,7 +63,7 @@ unfoldable pub pieces : List ℕ → List (List ℕ)
 pieces [] = []
 pieces (b ∷ text) = cond (eqb b newline) ((b ∷ []) ∷ pieces text) (onto b (pieces text))
 
--- whether a piece ends in a newline
+-- whether a newline closes the first line of a text, which may be one piece
 abbrev pub closed : List ℕ → Bool
 closed piece = ltb (length (lineOf piece)) (length piece)
 
@@ -73,7 +74,7 @@ answerTo piece s = lineText (saidTo (lineOf piece) s .bytes)
 unfoldable pub stateAfter : List ℕ → State → State
 stateAfter piece s = saidTo (lineOf piece) s .state
 
--- the answers to pieces, each from the state that the one before left
+-- "answers a line a frame, no header": the answers to pieces, each from the state that the one before left
 unfoldable pub answersTo : State → List (List ℕ) → List ℕ
 answersTo s [] = []
 answersTo s (piece ∷ rest) = answerTo piece s ++ answersTo (stateAfter piece s) rest
@@ -103,6 +104,12 @@ answered last room s (piece ∷ rest) =
     (first (answerTo piece s) (length piece) (answered last (room - length (answerTo piece s)) (stateAfter piece s) rest))
     (stop s)
 
+-- every line that is due, where there is room for all of the answers
+unfoldable pub answeredAll : Bool → State → List (List ℕ) → Reached
+answeredAll last s [] = stop s
+answeredAll last s (piece ∷ rest) =
+    cond (last || closed piece) (first (answerTo piece s) (length piece) (answeredAll last (stateAfter piece s) rest)) (stop s)
+
 -- ---- what the functions promise
 
 -- an answer's bytes at the front of a buffer, and the state
@@ -112,7 +119,8 @@ pub record Tells (line : List ℕ) (s : QoSScheduler) (before after : List ℕ) 
   pub length-is : r .length ≡ length (saidTo line (abs s) .bytes)
   pub buffer-is : after ≡ sets before 0 (saidTo line (abs s) .bytes)
 
--- the answers' text at the front of a buffer, how much of each is used, and the state
+-- The answers' text at the front of a buffer, how much of each is used, and the state. `used-in` and `written-in` follow from the other fields
+-- and stand there for callers.
 pub record Answers (last : Bool) (s : QoSScheduler) (input before after : List ℕ) (r : Answered) : Type 0 where
   pub valid : Valid (r .state)
   pub used-in : r .used ≤ length input
@@ -122,16 +130,23 @@ pub record Answers (last : Bool) (s : QoSScheduler) (input before after : List �
   pub written-is : r .written ≡ length (answered last (length before) (abs s) (pieces input) .text)
   pub buffer-is : after ≡ sets before 0 (answered last (length before) (abs s) (pieces input) .text)
 
--- ---- what has to be kept of a line that is not closed yet
+-- ---- what has to be kept of a line that is not closed yet; this and what follows is ours, document 01 does not speak of blocks
 
 -- no frame has more digits
 abbrev pub longestLine : ℕ
 longestLine = 60
 
--- From where a text has to be kept that begins at a place with a line that nothing closes yet: all of it, but of one longer than any frame only
--- so much that it is still longer, since it will be refused whatever follows.
+-- From where a text has to be kept whose lines are answered up to a place: from there on, but of a line that nothing closes yet and that is
+-- longer than any frame only so much that it is still longer, since it will be refused whatever follows.
 unfoldable pub keptFrom : List ℕ → ℕ → ℕ
-keptFrom text at =
-    cond (eqb (length (lineOf (drop at text))) (length (drop at text)) && ltb longestLine (length (drop at text)))
-    (length text - (longestLine + 1))
-    at
+keptFrom text at = cond (closed (drop at text) || leb (length (drop at text)) longestLine) at (length text - (longestLine + 1))
+
+-- ---- a text that is read in blocks
+
+-- The answers to blocks of text, each read behind what is kept of those before it; what is kept of the last is answered as it is.
+unfoldable pub inBlocks : State → List ℕ → List (List ℕ) → List ℕ
+inBlocks s held [] = answeredAll true s (pieces held) .text
+inBlocks s held (block ∷ blocks) =
+    let text = held ++ block in
+    let r = answeredAll false s (pieces text) in
+    r .text ++ inBlocks (r .state) (drop (keptFrom text (r .used)) text) blocks
