@@ -15,7 +15,7 @@ use lib.Seq.{take-nil, take-add, sets-eq, take-at}
 use mir.Syntax.{w64}
 use mir.Val.{toZ, sel}
 use Rattle.frames.specs.Bytes.{part, Puts}
-use Rattle.frames.specs.Lines.{keptFrom}
+use Rattle.frames.specs.Blocks.{keptFrom}
 use Rattle.io.specs.Counts.{clamped}
 use Rattle.calls.specs.declared.Block.{Block}
 use Rattle.calls.specs.Program.{Reads, Keeps}

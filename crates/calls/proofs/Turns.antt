@@ -9,7 +9,8 @@ use lib.ListN.{length, take, drop, length-take, length-drop}
 use Rattle.scheduler.specs.declared.scheduler.QoSScheduler.{QoSScheduler}
 use Rattle.scheduler.specs.Scheduler.{abs, Valid}
 use Rattle.frames.specs.Bytes.{part}
-use Rattle.frames.specs.Lines.{pieces, Reached, answersTo, answeredAll, keptFrom}
+use Rattle.frames.specs.Lines.{pieces, Reached, answersTo, answeredAll}
+use Rattle.frames.specs.Blocks.{keptFrom}
 use Rattle.frames.proofs.Texts.{all-last, block-whole, block-short}
 use Rattle.calls.specs.declared.Block.{Block}
 use Rattle.calls.specs.declared.Progress.{Progress}

@@ -7,7 +7,8 @@ use lib.ListN.{length, take, drop}
 use Rattle.scheduler.specs.declared.scheduler.QoSScheduler.{QoSScheduler}
 use Rattle.scheduler.specs.Scheduler.{abs, Valid}
 use Rattle.frames.specs.Bytes.{Puts}
-use Rattle.frames.specs.Lines.{pieces, answeredAll, keptFrom}
+use Rattle.frames.specs.Lines.{pieces, answeredAll}
+use Rattle.frames.specs.Blocks.{keptFrom}
 use Rattle.calls.specs.declared.Block.{Block}
 use Rattle.calls.specs.declared.Progress.{Progress}
 

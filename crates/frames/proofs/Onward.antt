@@ -13,7 +13,7 @@ use lib.ListN.{length, take, length-append}
 use lib.Seq.{length-take-le}
 use Rattle.records.proofs.Cases.{by-if}
 use Rattle.scheduler.specs.State.{State}
-use Rattle.frames.specs.Lines.{lineOf, Said, saidTo, lineText, pieces, closed, answerTo, stateAfter, answersTo, Reached, stop, first, answered, answeredAll}
+use Rattle.frames.specs.Lines.{lineOf, Said, saidTo, lineText, pieces, closed, answerTo, stateAfter, answersTo, Reached, stop, first, answeredInRoom, answeredAll}
 use Rattle.frames.proofs.Cuts.{test, pieceEnd, rest, end-is, pieces-cut, line-of-piece, by-pieces, cut-more}
 
 -- ---- all answers
@@ -54,7 +54,7 @@ module _ (last : Bool) (text : List ℕ) (room : ℕ) (s : State) where
   goes = (last || closed text) && leb (length (answerTo text s)) room
 
   abbrev pub onward : Reached
-  onward = first (answerTo text s) (pieceEnd text) (answered last (room - length (answerTo text s)) (stateAfter text s) (pieces (rest text)))
+  onward = first (answerTo text s) (pieceEnd text) (answeredInRoom last (room - length (answerTo text s)) (stateAfter text s) (pieces (rest text)))
 
 -- what is reached where there is room for all
 abbrev pub onward-all : Bool → List ℕ → State → Reached
@@ -83,34 +83,34 @@ module _ (text : List ℕ) (some : 0 < length text) where
       (first (lineText (answer .bytes)) (length-piece i) (answeredAll last (answer .state) (pieces (rest text))))
       (stop s))
 
-  answered-first : (last : Bool) (room : ℕ) (s : State) → answered last room s (pieces text) ≡ cond (goes last text room s) (onward last text room s) (stop s)
-  unfolding answered answerTo stateAfter
+  answered-first : (last : Bool) (room : ℕ) (s : State) → answeredInRoom last room s (pieces text) ≡ cond (goes last text room s) (onward last text room s) (stop s)
+  unfolding answeredInRoom answerTo stateAfter
   answered-first last room s =
-      ap (answered last room s) (pieces-cut text some)
+      ap (answeredInRoom last room s) (pieces-cut text some)
       ∙ (λ i.
       let answer : Said = saidTo (line-of-piece text i) s in
       let size : ℕ = length (lineText (answer .bytes)) in
       cond ((last || closed-piece i) && leb size room)
-      (first (lineText (answer .bytes)) (length-piece i) (answered last (room - size) (answer .state) (pieces (rest text))))
+      (first (lineText (answer .bytes)) (length-piece i) (answeredInRoom last (room - size) (answer .state) (pieces (rest text))))
       (stop s))
 
 pub answered-on : (last : Bool) (text : List ℕ) (room : ℕ) (s : State) → 0 < length text → last || closed text ≡ true → length (answerTo text s) ≤ room →
-    answered last room s (pieces text) ≡ onward last text room s
+    answeredInRoom last room s (pieces text) ≡ onward last text room s
 answered-on last text room s some due fits =
     answered-first text some last room s ∙ (λ i. cond (due i && le-leb (length (answerTo text s)) room fits i) (onward last text room s) (stop s))
 
-answered-held : (last : Bool) (text : List ℕ) (room : ℕ) (s : State) → goes last text room s ≡ false → answered last room s (pieces text) ≡ stop s
-unfolding pieces answered
+answered-held : (last : Bool) (text : List ℕ) (room : ℕ) (s : State) → goes last text room s ≡ false → answeredInRoom last room s (pieces text) ≡ stop s
+unfolding pieces answeredInRoom
 answered-held last [] room s held = refl
 answered-held last (b ∷ text) room s held =
     answered-first (b ∷ text) (omega arith) last room s ∙ ap (λ (t : Bool). cond t (onward last (b ∷ text) room s) (stop s)) held
 
 -- the line is not all there, or its answer has no room
 module _ (last : Bool) (text : List ℕ) (room : ℕ) (s : State) where
-  pub held-line : last || closed text ≡ false → answered last room s (pieces text) ≡ stop s
+  pub held-line : last || closed text ≡ false → answeredInRoom last room s (pieces text) ≡ stop s
   held-line part = answered-held last text room s (λ i. part i && leb (length (answerTo text s)) room)
 
-  pub held-room : room < length (answerTo text s) → answered last room s (pieces text) ≡ stop s
+  pub held-room : room < length (answerTo text s) → answeredInRoom last room s (pieces text) ≡ stop s
   held-room small = answered-held last text room s ((λ i. (last || closed text) && lt-leb _ _ small i) ∙ and-false (last || closed text))
 
 -- the same where there is room for all
@@ -127,10 +127,10 @@ module _ (last : Bool) (P : ℕ → State → List ℕ → Reached → Type 0)
     (held : (room : ℕ) (s : State) (text : List ℕ) → 0 < length text → goes last text room s ≡ false → P room s text (stop s))
     (on : (room : ℕ) (s : State) (text : List ℕ) (r : Reached) → 0 < length text → last || closed text ≡ true → length (answerTo text s) ≤ room →
     P (room - length (answerTo text s)) (stateAfter text s) (rest text) r → P room s text (first (answerTo text s) (pieceEnd text) r)) where
-  pub along : (text : List ℕ) (room : ℕ) (s : State) → P room s text (answered last room s (pieces text))
-  unfolding pieces answered
+  pub along : (text : List ℕ) (room : ℕ) (s : State) → P room s text (answeredInRoom last room s (pieces text))
+  unfolding pieces answeredInRoom
   along =
-      by-pieces (λ (text : List ℕ). (room : ℕ) (s : State) → P room s text (answered last room s (pieces text))) none
+      by-pieces (λ (text : List ℕ). (room : ℕ) (s : State) → P room s text (answeredInRoom last room s (pieces text))) none
       (λ text some behind room s.
       subst (P room s text) (sym (answered-first text some last room s))
       (by-if (P room s text) (goes last text room s)

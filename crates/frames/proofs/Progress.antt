@@ -15,7 +15,7 @@ use Rattle.scheduler.specs.State.{State}
 use Rattle.scheduler.specs.Scheduler.{abs, Valid}
 use Rattle.frames.specs.declared.lines.Told.{Told}
 use Rattle.frames.specs.Hex.{toHex}
-use Rattle.frames.specs.Lines.{newline, lineOf, saidTo, lineText, pieces, closed, answerTo, stateAfter, Reached, stop, first, answered, Tells, Answers}
+use Rattle.frames.specs.Lines.{newline, lineOf, saidTo, lineText, pieces, closed, answerTo, stateAfter, Reached, stop, first, answeredInRoom, Tells, Answers}
 use Rattle.frames.proofs.Cuts.{line-within, pieceEnd, rest, end-is}
 use Rattle.frames.proofs.Digits.{length-toHex}
 use Rattle.frames.proofs.Onward.{first-none, first-first, answered-on, held-line, held-room}
@@ -53,7 +53,7 @@ first-stop a n s = λ i. record { text = append-nil a i; used = add-zero n i; st
 -- What is done, and what the rest of the text is answered in the room that is left, is what is asked for.
 pub record Answering (last : Bool) (input before : List ℕ) (start : QoSScheduler) (out : List ℕ) (state : QoSScheduler) (used written : ℕ) : Type 0 where
   pub done : List ℕ
-  pub whole : answered last (length before) (abs start) (pieces input) ≡ first done used (answered last (length before - written) (abs state) (pieces (drop used input)))
+  pub whole : answeredInRoom last (length before) (abs start) (pieces input) ≡ first done used (answeredInRoom last (length before - written) (abs state) (pieces (drop used input)))
   pub written-is : written ≡ length done
   pub out-is : out ≡ sets before 0 done
   pub length-is : length out ≡ length before
@@ -64,7 +64,7 @@ pub record Answering (last : Bool) (input before : List ℕ) (start : QoSSchedul
 pub begin : (last : Bool) (input before : List ℕ) {start : QoSScheduler} → Valid start → Answering last input before start before start 0 0
 begin last input before {start} valid = record {
   done = [];
-  whole = first-none _ ∙ ap (λ (n : ℕ). first [] 0 (answered last n (abs start) (pieces input))) (sym (sub-zero (length before)));
+  whole = first-none _ ∙ ap (λ (n : ℕ). first [] 0 (answeredInRoom last n (abs start) (pieces input))) (sym (sub-zero (length before)));
   written-is = refl;
   out-is = refl;
   length-is = refl;
@@ -86,8 +86,8 @@ module _ {last : Bool} {input before : List ℕ} {start : QoSScheduler} {out : L
   abbrev Ended : Type 0
   Ended = Answers last start input before out (record { state = state; used = used; written = written })
 
-  module _ (stops : answered last room (abs state) (pieces here) ≡ stop (abs state)) where
-    final : answered last (length before) (abs start) (pieces input) ≡ record { text = t .done; used = used; state = abs state }
+  module _ (stops : answeredInRoom last room (abs state) (pieces here) ≡ stop (abs state)) where
+    final : answeredInRoom last (length before) (abs start) (pieces input) ≡ record { text = t .done; used = used; state = abs state }
     final = t .whole ∙ ap (first (t .done) used) stops ∙ first-stop (t .done) used (abs state)
 
     ended : Ended
@@ -103,8 +103,8 @@ module _ {last : Bool} {input before : List ℕ} {start : QoSScheduler} {out : L
 
   -- the text is at its end
   pub ended-text : length input ≤ used → Ended
-  unfolding pieces answered
-  ended-text past = ended (ap (λ (l : List ℕ). answered last room (abs state) (pieces l)) (drop-of-length-le input past))
+  unfolding pieces answeredInRoom
+  ended-text past = ended (ap (λ (l : List ℕ). answeredInRoom last room (abs state) (pieces l)) (drop-of-length-le input past))
 
   module _ {line : List ℕ} (is : line ≡ lineOf here) where
     not-closed : eqb (used + length line) (length input) ≡ true → closed here ≡ false
@@ -166,7 +166,7 @@ module _ {last : Bool} {input before : List ℕ} {start : QoSScheduler} {out : L
                   t .whole
                   ∙ ap (first (t .done) used) (answered-on last here room (abs state) some (due why) (omega (arith, length-answer, t .length-is)))
                   ∙ first-first (t .done) (answerTo here (abs state)) used (pieceEnd here) _
-                  ∙ (λ i. first (t .done ++ answer-is i) (next-used i) (answered last (next-room i) (next-state i) (pieces (next-rest i))));
+                  ∙ (λ i. first (t .done ++ answer-is i) (next-used i) (answeredInRoom last (next-room i) (next-state i) (pieces (next-rest i))));
               written-is = omega (arith, t .written-is, length-append (t .done) answer, length-answer, ap length answer-is);
               out-is =
                   out-is

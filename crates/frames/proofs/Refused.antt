@@ -16,7 +16,8 @@ use Rattle.frames.specs.Bytes.{total}
 use Rattle.frames.proofs.Digits.{below}
 use Rattle.scheduler.specs.State.{State}
 use Rattle.frames.specs.Hex.{isDigit, isHex, fromHex, toHex}
-use Rattle.frames.specs.Lines.{newline, longestLine, lineCall, said, saidTo, lineText}
+use Rattle.frames.specs.Lines.{newline, lineCall, said, saidTo, lineText}
+use Rattle.frames.specs.Blocks.{longestLine}
 
 -- no call has more arguments than create
 arguments-short : (call : ℕ) → argumentsLength call ≤ 29

@@ -1,4 +1,4 @@
--- Texts answered in parts, as a program reads them in blocks: what `answered` writes, then the answers from the state it reaches to what it does
+-- Texts answered in parts, as a program reads them in blocks: what `answeredInRoom` writes, then the answers from the state it reaches to what it does
 -- not use, are the answers to the whole; answering in goes of some room each comes to the same as with room for all (`answeredAll`); what need not
 -- be kept of a line that is too long; and so the answers to a text however it is cut into blocks (`blocks-whole`). Assumes nothing.
 use mathlib.Core.Bool.{Bool, true, false, _||_, false≢true, true≢false}
@@ -19,7 +19,8 @@ use Rattle.frames.specs.declared.decode.CallOption.{CallOption}
 use Rattle.frames.specs.declared.decode.CallOption.the-variants.{None}
 use Rattle.frames.specs.declared.lines.Answered.{Answered}
 use Rattle.frames.specs.Hex.{toHex}
-use Rattle.frames.specs.Lines.{newline, lineOf, said, saidTo, lineText, pieces, closed, answerTo, stateAfter, answersTo, Reached, stop, first, answered, answeredAll, Answers, longestLine, keptFrom, inBlocks}
+use Rattle.frames.specs.Lines.{newline, lineOf, said, saidTo, lineText, pieces, closed, answerTo, stateAfter, answersTo, Reached, stop, first, answeredInRoom, answeredAll, Answers}
+use Rattle.frames.specs.Blocks.{longestLine, keptFrom, inBlocks}
 use Rattle.frames.proofs.Cuts.{test, pieceEnd, rest, line-in, line-within, end-is, by-pieces, line-open, rest-open, drop-open}
 use Rattle.frames.proofs.Digits.{length-toHex}
 use Rattle.frames.proofs.Onward.{answersTo-first, answersTo-more, length-first, first-none, first-first, answered-on, all-on, all-held, along}
@@ -39,35 +40,35 @@ unfolding answerTo
 answer-in piece s = omega (arith, length-lineText (saidTo (lineOf piece) s .bytes), said-fits (lineOf piece) s)
 
 module _ (last : Bool) where
-  pub used-in : (text : List ℕ) (room : ℕ) (s : State) → answered last room s (pieces text) .used ≤ length text
+  pub used-in : (text : List ℕ) (room : ℕ) (s : State) → answeredInRoom last room s (pieces text) .used ≤ length text
   used-in =
       along last (λ room s text r. r .used ≤ length text) (λ room s. omega arith) (λ room s text some held. omega arith)
       (λ room s text r some due fits behind. omega (arith, end-is text, length-drop (pieceEnd text) text))
 
-  pub text-in : (text : List ℕ) (room : ℕ) (s : State) → length (answered last room s (pieces text) .text) ≤ room
+  pub text-in : (text : List ℕ) (room : ℕ) (s : State) → length (answeredInRoom last room s (pieces text) .text) ≤ room
   text-in =
       along last (λ room s text r. length (r .text) ≤ room) (λ room s. omega arith) (λ room s text some held. omega arith)
       (λ room s text r some due fits behind. omega (arith, length-append (answerTo text s) (r .text)))
 
   -- where nothing is used nothing is written, and the state is as it was
-  pub none-used : (text : List ℕ) (room : ℕ) (s : State) → answered last room s (pieces text) .used ≡ 0 → answered last room s (pieces text) ≡ stop s
+  pub none-used : (text : List ℕ) (room : ℕ) (s : State) → answeredInRoom last room s (pieces text) .used ≡ 0 → answeredInRoom last room s (pieces text) ≡ stop s
   none-used =
       along last (λ room s text r. r .used ≡ 0 → r ≡ stop s) (λ room s none. refl) (λ room s text some held none. refl)
       (λ room s text r some due fits behind none. absurd (omega (arith, end-is text)))
 
   -- what stands at the front of the buffer
   pub written-out : {s : QoSScheduler} {input before after : List ℕ} {r : Answered} → Answers last s input before after r →
-      take (r .written) after ≡ answered last (length before) (abs s) (pieces input) .text
+      take (r .written) after ≡ answeredInRoom last (length before) (abs s) (pieces input) .text
   written-out {s} {input} {before} a = (λ i. take (a .written-is i) (a .buffer-is i)) ∙ take-sets before _ (text-in input (length before) (abs s))
 
   -- something is used, where the first line is there and its answer has room
   pub goes-on : (text : List ℕ) (room : ℕ) (s : State) → 0 < length text → last || closed text ≡ true → length (answerTo text s) ≤ room →
-      0 < answered last room s (pieces text) .used
+      0 < answeredInRoom last room s (pieces text) .used
   goes-on text room s some due fits = rw (answered-on last text room s some due fits) (omega (arith, end-is text))
 
 -- all is used, where the text is the last and every answer has room
 pub answered-all : (text : List ℕ) (room : ℕ) (s : State) → length (answersTo s (pieces text)) ≤ room →
-    let r = answered true room s (pieces text) in (r .text ≡ answersTo s (pieces text)) × (r .used ≡ length text)
+    let r = answeredInRoom true room s (pieces text) in (r .text ≡ answersTo s (pieces text)) × (r .used ≡ length text)
 unfolding pieces answersTo
 answered-all =
     along true (λ room s text r. length (answersTo s (pieces text)) ≤ room → (r .text ≡ answersTo s (pieces text)) × (r .used ≡ length text))
@@ -84,7 +85,7 @@ answered-all =
 module _ (last : Bool) where
   -- room for all of the answers is enough
   ample : (text : List ℕ) (room : ℕ) (s : State) → length (answeredAll last s (pieces text) .text) ≤ room →
-      answered last room s (pieces text) ≡ answeredAll last s (pieces text)
+      answeredInRoom last room s (pieces text) ≡ answeredAll last s (pieces text)
   unfolding pieces answeredAll
   ample =
       along last (λ room s text r. length (answeredAll last s (pieces text) .text) ≤ room → r ≡ answeredAll last s (pieces text))
@@ -103,7 +104,7 @@ module _ (last : Bool) where
           ap (λ (r : Reached). length (r .text)) (all-on last text s some due) ∙ length-append (answerTo text s) _
 
   -- what is so in every room that is large enough
-  by-room : (P : Reached → Type 0) (text : List ℕ) (s : State) (least : ℕ) → ((room : ℕ) → least ≤ room → P (answered last room s (pieces text))) →
+  by-room : (P : Reached → Type 0) (text : List ℕ) (s : State) (least : ℕ) → ((room : ℕ) → least ≤ room → P (answeredInRoom last room s (pieces text))) →
       P (answeredAll last s (pieces text))
   by-room P text s least so =
       let enough : ℕ = length (answeredAll last s (pieces text) .text) in
@@ -111,7 +112,7 @@ module _ (last : Bool) where
 
   -- some of it now, and then the rest, is all of it
   pub in-goes : (text : List ℕ) (room : ℕ) (s : State) →
-      let r = answered last room s (pieces text) in
+      let r = answeredInRoom last room s (pieces text) in
       answeredAll last s (pieces text) ≡ first (r .text) (r .used) (answeredAll last (r .state) (pieces (drop (r .used) text)))
   in-goes =
       along last (λ room s text r. answeredAll last s (pieces text) ≡ first (r .text) (r .used) (answeredAll last (r .state) (pieces (drop (r .used) text))))
@@ -132,16 +133,16 @@ module _ (last : Bool) where
     so-far-none = first-none _
 
     pub so-far-goes : (done : List ℕ) (used : ℕ) (s′ : State) → SoFar done used s′ → (room : ℕ) →
-        let r = answered last room s′ (pieces (drop used text)) in SoFar (done ++ r .text) (used + r .used) (r .state)
+        let r = answeredInRoom last room s′ (pieces (drop used text)) in SoFar (done ++ r .text) (used + r .used) (r .state)
     so-far-goes done used s′ so room =
-        let r = answered last room s′ (pieces (drop used text)) in
+        let r = answeredInRoom last room s′ (pieces (drop used text)) in
         so
         ∙ ap (first done used) (in-goes (drop used text) room s′)
         ∙ first-first done (r .text) used (r .used) _
         ∙ ap (λ (l : List ℕ). first (done ++ r .text) (used + r .used) (answeredAll last (r .state) (pieces l))) (drop-drop (r .used) used text)
 
   -- where nothing is used though any answer has room, nothing is due
-  pub none-due : (text : List ℕ) (room : ℕ) (s : State) → 103 ≤ room → answered last room s (pieces text) .used ≡ 0 →
+  pub none-due : (text : List ℕ) (room : ℕ) (s : State) → 103 ≤ room → answeredInRoom last room s (pieces text) .used ≡ 0 →
       answeredAll last s (pieces text) ≡ stop s
   unfolding pieces answeredAll
   none-due [] room s wide none = refl
@@ -186,7 +187,7 @@ ends true none due = inr (none refl)
 ends false none due = inl due
 
 answered-then : (last : Bool) (more : List ℕ) → (last ≡ true → more ≡ []) → (text : List ℕ) (room : ℕ) (s : State) →
-    let r = answered last room s (pieces text) in answersTo s (pieces (text ++ more)) ≡ r .text ++ answersTo (r .state) (pieces (drop (r .used) text ++ more))
+    let r = answeredInRoom last room s (pieces text) in answersTo s (pieces (text ++ more)) ≡ r .text ++ answersTo (r .state) (pieces (drop (r .used) text ++ more))
 answered-then last more none =
     along last (λ room s text r. answersTo s (pieces (text ++ more)) ≡ r .text ++ answersTo (r .state) (pieces (drop (r .used) text ++ more)))
     (λ room s. refl)
@@ -199,7 +200,7 @@ answered-then last more none =
 
 -- a block, whatever comes behind it
 pub answered-whole : (text more : List ℕ) (room : ℕ) (s : State) →
-    let r = answered false room s (pieces text) in answersTo s (pieces (text ++ more)) ≡ r .text ++ answersTo (r .state) (pieces (drop (r .used) text ++ more))
+    let r = answeredInRoom false room s (pieces text) in answersTo s (pieces (text ++ more)) ≡ r .text ++ answersTo (r .state) (pieces (drop (r .used) text ++ more))
 answered-whole text more = answered-then false more (λ is. absurd (false≢true is)) text
 
 -- the same with room for all
@@ -211,9 +212,9 @@ all-whole text more s =
 
 -- the last block
 pub answered-last : (text : List ℕ) (room : ℕ) (s : State) →
-    let r = answered true room s (pieces text) in answersTo s (pieces text) ≡ r .text ++ answersTo (r .state) (pieces (drop (r .used) text))
+    let r = answeredInRoom true room s (pieces text) in answersTo s (pieces text) ≡ r .text ++ answersTo (r .state) (pieces (drop (r .used) text))
 answered-last text room s =
-    let r = answered true room s (pieces text) in
+    let r = answeredInRoom true room s (pieces text) in
     ap (λ (l : List ℕ). answersTo s (pieces l)) (sym (append-nil text))
     ∙ answered-then true [] (λ _. refl) text room s
     ∙ ap (λ (l : List ℕ). r .text ++ answersTo (r .state) (pieces l)) (append-nil (drop (r .used) text))

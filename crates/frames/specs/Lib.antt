@@ -4,8 +4,10 @@
 --   Bytes    big-endian numbers                  Hex      two digits a byte
 --   Frame    which call a frame stands for       Answer   the bytes of an answer
 --   Lines    lines of text, and the text of their answers
+--   Blocks   text that is read in blocks
 pub mod Bytes
 pub mod Hex
 pub mod Frame
 pub mod Answer
 pub mod Lines
+pub mod Blocks

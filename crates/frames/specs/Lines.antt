@@ -1,10 +1,10 @@
 -- Document 01, "Call frames": text of lines, and the text of its answers.
-use mathlib.Core.Bool.{Bool, true, false, cond, _&&_, _||_}
+use mathlib.Core.Bool.{Bool, cond, _&&_, _||_}
 use mathlib.Core.List.{List, [], _∷_, _++_}
 use mathlib.Core.Path.{_≡_}
 use Prim.Native.Nat.{ℕ, _+_, _-_, _≤_}
 use lib.Dec.{eqb, leb, ltb}
-use lib.ListN.{length, drop}
+use lib.ListN.{length}
 use lib.Seq.{sets}
 use Rattle.scheduler.specs.declared.scheduler.QoSScheduler.{QoSScheduler}
 use Rattle.scheduler.specs.State.{State, noneByte}
@@ -63,7 +63,7 @@ unfoldable pub pieces : List ℕ → List (List ℕ)
 pieces [] = []
 pieces (b ∷ text) = cond (eqb b newline) ((b ∷ []) ∷ pieces text) (onto b (pieces text))
 
--- whether a newline closes the first line of a text, which may be one piece
+-- whether a newline closes the first line of a text
 abbrev pub closed : List ℕ → Bool
 closed piece = ltb (length (lineOf piece)) (length piece)
 
@@ -97,11 +97,11 @@ first text used r = record { text = text ++ r .text; used = used + r .used; stat
 
 -- Lines are answered in order as long as a line's answer fits the room that is left. A line that no newline closes is answered only where the
 -- text is the last: more of it may come.
-unfoldable pub answered : Bool → ℕ → State → List (List ℕ) → Reached
-answered last room s [] = stop s
-answered last room s (piece ∷ rest) =
+unfoldable pub answeredInRoom : Bool → ℕ → State → List (List ℕ) → Reached
+answeredInRoom last room s [] = stop s
+answeredInRoom last room s (piece ∷ rest) =
     cond ((last || closed piece) && leb (length (answerTo piece s)) room)
-    (first (answerTo piece s) (length piece) (answered last (room - length (answerTo piece s)) (stateAfter piece s) rest))
+    (first (answerTo piece s) (length piece) (answeredInRoom last (room - length (answerTo piece s)) (stateAfter piece s) rest))
     (stop s)
 
 -- every line that is due, where there is room for all of the answers
@@ -125,28 +125,7 @@ pub record Answers (last : Bool) (s : QoSScheduler) (input before after : List �
   pub valid : Valid (r .state)
   pub used-in : r .used ≤ length input
   pub written-in : r .written ≤ length before
-  pub state-is : abs (r .state) ≡ answered last (length before) (abs s) (pieces input) .state
-  pub used-is : r .used ≡ answered last (length before) (abs s) (pieces input) .used
-  pub written-is : r .written ≡ length (answered last (length before) (abs s) (pieces input) .text)
-  pub buffer-is : after ≡ sets before 0 (answered last (length before) (abs s) (pieces input) .text)
-
--- ---- what has to be kept of a line that is not closed yet; this and what follows is ours, document 01 does not speak of blocks
-
--- no frame has more digits
-abbrev pub longestLine : ℕ
-longestLine = 60
-
--- From where a text has to be kept whose lines are answered up to a place: from there on, but of a line that nothing closes yet and that is
--- longer than any frame only so much that it is still longer, since it will be refused whatever follows.
-unfoldable pub keptFrom : List ℕ → ℕ → ℕ
-keptFrom text at = cond (closed (drop at text) || leb (length (drop at text)) longestLine) at (length text - (longestLine + 1))
-
--- ---- a text that is read in blocks
-
--- The answers to blocks of text, each read behind what is kept of those before it; what is kept of the last is answered as it is.
-unfoldable pub inBlocks : State → List ℕ → List (List ℕ) → List ℕ
-inBlocks s held [] = answeredAll true s (pieces held) .text
-inBlocks s held (block ∷ blocks) =
-    let text = held ++ block in
-    let r = answeredAll false s (pieces text) in
-    r .text ++ inBlocks (r .state) (drop (keptFrom text (r .used)) text) blocks
+  pub state-is : abs (r .state) ≡ answeredInRoom last (length before) (abs s) (pieces input) .state
+  pub used-is : r .used ≡ answeredInRoom last (length before) (abs s) (pieces input) .used
+  pub written-is : r .written ≡ length (answeredInRoom last (length before) (abs s) (pieces input) .text)
+  pub buffer-is : after ≡ sets before 0 (answeredInRoom last (length before) (abs s) (pieces input) .text)

@@ -2,7 +2,7 @@
 ghost use mathlib.Core.Path.{_≡_};
 ghost use Prim.Native.Nat.{_-_};
 ghost use Rattle.frames.specs.Bytes.{Puts, part};
-ghost use Rattle.frames.specs.Lines.{keptFrom};
+ghost use Rattle.frames.specs.Blocks.{keptFrom};
 use crate::lines::LINE_MAX;
 use crate::lines::next_line;
 
