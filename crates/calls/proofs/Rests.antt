@@ -1,7 +1,7 @@
 -- Parts of the input's buffer: what is read into it, and what is kept for the next read. Assumes nothing.
 use mathlib.Core.Bool.{Bool, true, false, true≢false}
 use mathlib.Core.List.{List, [], _∷_, _++_}
-use mathlib.Core.Path.{_≡_, refl, ap, _∙_, subst}
+use mathlib.Core.Path.{_≡_, ap, _∙_, subst}
 use Prim.Native.Nat.{ℕ, zero, suc, _+_, _-_, _≤_, _<_, _^_}
 use native.Mathlib.Nat.{sub-zero, zero-min}
 use native.Mathlib.Omega.{arith}
@@ -11,11 +11,12 @@ use lib.Dec.{eqb, ltb}
 use lib.IntN.{pos, negsuc}
 use lib.ListN.{length, take, drop, length-take, length-drop}
 use lib.Signed.{ltZ}
-use lib.Seq.{take-nil, take-add, sets-eq, take-at}
+use lib.Seq.{take-nil, take-add}
 use mir.Syntax.{w64}
 use mir.Val.{toZ, sel}
 use Rattle.frames.specs.Bytes.{part, Puts}
 use Rattle.frames.specs.Blocks.{keptFrom}
+use Rattle.frames.proofs.Stores.{take-sets}
 use Rattle.io.specs.Counts.{clamped}
 use Rattle.calls.specs.declared.Block.{Block}
 use Rattle.calls.specs.Program.{Reads, Keeps}
@@ -77,6 +78,4 @@ kept {from} {r} used end {input} {after} is put =
 -- what was put at the front stands there
 pub front-is : {bytes before after : List ℕ} {r : ℕ} → Puts bytes 0 before after r → length bytes ≤ length before → take r after ≡ bytes
 front-is {bytes} {before} put fits =
-    (λ i. take (put .length-is i) (put .buffer-is i))
-    ∙ ap (take (length bytes)) (sets-eq bytes before 0 (omega (arith, fits)))
-    ∙ take-at bytes _ (length bytes) refl
+    (λ i. take (put .length-is i) (put .buffer-is i)) ∙ take-sets before bytes fits

@@ -8,14 +8,14 @@ use native.Mathlib.Nat.{suc-inj}
 use native.Mathlib.Omega.{arith}
 use lib.Dec.{eqb}
 use lib.ListN.{length, getD, List·getD-eq-default}
-use borrow.Author.Tests.{eqb-true, eq-eqb, ne-eqb}
+use borrow.Author.Tests.{eq-eqb, ne-eqb}
 use Rattle.records.specs.declared.band.BandOption.{BandOption}
 use Rattle.records.proofs.Cases.{by-if}
 use Rattle.scheduler.specs.Accepted.{everyBelow}
+use Rattle.scheduler.proofs.Says.{equal, below}
 use Rattle.frames.specs.declared.decode.CallOption.{CallOption}
 use Rattle.frames.specs.declared.decode.CallOption.the-variants.{None}
 use Rattle.frames.specs.Frame.{argumentsLength, createIn, callsIn, frameCall}
-use Rattle.frames.proofs.Digits.{below}
 
 -- ---- the table of calls
 
@@ -46,7 +46,7 @@ lengths = 30 ∷ 17 ∷ 9 ∷ 9 ∷ 9 ∷ 9 ∷ 9 ∷ 13 ∷ 9 ∷ 9 ∷ 13 ∷ 
 
 lengths-are : (call : ℕ) → call < 17 → getD lengths call 0 ≡ suc (argumentsLength call)
 unfolding everyBelow
-lengths-are call h = eqb-true _ _ (below 17 (λ k. eqb (getD lengths k 0) (suc (argumentsLength k))) refl call h)
+lengths-are = below (λ (call : ℕ). equal) .0 refl
 
 pub frame-when : (frame : List ℕ) → 0 < length frame → getD frame 0 0 < 17 → length frame ≡ getD lengths (getD frame 0 0) 0
     → frameCall frame ≡ getD (callsIn frame) (getD frame 0 0) None

@@ -2,8 +2,9 @@
 -- store digits need. Assumes nothing.
 use mathlib.Core.Path.{_≡_, refl, sym, ap, _∙_}
 use mathlib.Core.Bool.{Bool, true, false, _&&_, and-eq-true-iff, and-false}
+use mathlib.Core.Logic.{Iff·rfl}
 use mathlib.Core.List.{List, [], _∷_}
-use Prim.Native.Nat.{ℕ, zero, suc, _+_, _-_, _*_, _/_, _%_, _≤_, _<_}
+use Prim.Native.Nat.{ℕ, suc, _+_, _-_, _*_, _/_, _%_, _≤_, _<_}
 use native.Mathlib.Omega.{arith}
 use native.Mathlib.Nat.{add-zero}
 use native.Mathlib.Numerals.{add-one}
@@ -13,6 +14,7 @@ use lib.ListN.{length, getD, drop, set, length-set, length-drop, drop-of-length-
 use lib.Seq.{sets, drop-cons}
 use Rattle.records.proofs.Cases.{split}
 use Rattle.scheduler.specs.Accepted.{Each, everyBelow}
+use Rattle.scheduler.proofs.Says.{equal, below}
 use Rattle.frames.specs.Hex.{within, isDigit, digitValue, digitOf, isHex, byteOf, fromHex, toHex, IsDigitValue}
 use Rattle.frames.proofs.Numbers.{AllBytes}
 
@@ -40,23 +42,14 @@ value-letter d n e = record { is = rw (n, e) (omega (arith, within-is 97 102 d e
 pub value-none : (d : ℕ) → within 48 57 d ≡ false → within 97 102 d ≡ false → IsDigitValue d 0
 value-none d n l = record { is = rw (n, l); small = omega arith }
 
--- what a test finds of every number below a bound, it finds of each
-pub below : (n : ℕ) (test : ℕ → Bool) → everyBelow n test ≡ true → (i : ℕ) → i < n → test i ≡ true
-unfolding everyBelow
-below zero test e i h = absurd (omega arith)
-below (suc n) test e i h =
-    let both = and-eq-true-iff (test n) (everyBelow n test) .0 e in
-    split (λ (_ : Bool). test i ≡ true) (eqb i n)
-    (λ same. rw (eqb-true i n same) (both .0))
-    (λ apart. below n test (both .1) i (omega (arith, eqb-false i n apart)))
-
+-- of all 16 by computing
 isDigit-digitOf : (n : ℕ) → n < 16 → isDigit (digitOf n) ≡ true
 unfolding everyBelow
-isDigit-digitOf = below 16 (λ n. isDigit (digitOf n)) refl
+isDigit-digitOf = below (λ (n : ℕ). Iff·rfl) .0 refl
 
 digitValue-digitOf : (n : ℕ) → n < 16 → digitValue (digitOf n) ≡ n
 unfolding everyBelow
-digitValue-digitOf n h = eqb-true _ _ (below 16 (λ m. eqb (digitValue (digitOf m)) m) refl n h)
+digitValue-digitOf = below (λ (n : ℕ). equal) .0 refl
 
 -- ---- the round trip, and lengths
 

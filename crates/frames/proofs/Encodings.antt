@@ -19,14 +19,8 @@ use Rattle.scheduler.specs.declared.answer.Value.the-variants as value
 use Rattle.scheduler.specs.Paper.{statusNumber, pickNumbers, slotNumber, targetNumbers, valueNumbers, recordNumbers}
 use Rattle.frames.specs.Answer.{recordWidths, recordBytes, recordPart, valueWidths, valueBytes, answerBytes}
 use Rattle.frames.specs.Bytes.{Puts, part, bytesOf, written, total}
-use Rattle.frames.proofs.Runs.{run}
+use Rattle.frames.proofs.Runs.{behind, run}
 use Rattle.frames.proofs.Sizes.{length-written, written-append, length-valueBytes, length-pick, answerBytes-are, length-answerBytes}
-use Rattle.frames.proofs.Stores.{sets-append}
-
--- some bytes, and others behind them
-pub behind : (o : List ℕ) {o₁ o₂ : List ℕ} (at next : ℕ) (a b : List ℕ) → o₁ ≡ sets o at a → next ≡ at + length a → o₂ ≡ sets o₁ next b
-    → o₂ ≡ sets o at (a ++ b)
-behind o at next a b e n more = more ∙ (λ i. sets (e i) (n i) b) ∙ sym (sets-append o at a b)
 
 -- ---- a value that was matched
 

@@ -4,16 +4,16 @@ use mathlib.Core.List.{List, [], _∷_}
 use mathlib.Core.Path.{_≡_, refl, ap}
 use Prim.Native.Nat.{ℕ, _*_, _≤_, _<_}
 use native.Mathlib.Omega.{arith}
-use borrow.Author.Tests.{ltb-true, ltb-false, leb-true, ne-eqb}
-use lib.Dec.{leb, ltb}
+use borrow.Author.Tests.{ltb-true, ltb-false, ne-eqb}
+use lib.Dec.{ltb}
 use lib.ListN.{length, getD, List·getD-eq-default}
 use Rattle.records.proofs.Cases.{split, by-if}
 use Rattle.scheduler.specs.Accepted.{everyBelow}
+use Rattle.scheduler.proofs.Says.{at-most, below}
 use Rattle.frames.specs.declared.decode.CallOption.{CallOption}
 use Rattle.frames.specs.declared.decode.CallOption.the-variants.{None}
 use Rattle.frames.specs.Frame.{argumentWidths, argumentsLength, callsIn, frameCall}
 use Rattle.frames.specs.Bytes.{total}
-use Rattle.frames.proofs.Digits.{below}
 use Rattle.scheduler.specs.State.{State}
 use Rattle.frames.specs.Hex.{isDigit, isHex, fromHex, toHex}
 use Rattle.frames.specs.Lines.{newline, lineCall, said, saidTo, lineText}
@@ -24,7 +24,7 @@ arguments-short : (call : ℕ) → argumentsLength call ≤ 29
 unfolding everyBelow
 arguments-short call =
     split (λ (_ : Bool). argumentsLength call ≤ 29) (ltb call 17)
-    (λ known. leb-true _ _ (below 17 (λ k. leb (argumentsLength k) 29) refl call (ltb-true call 17 known)))
+    (λ known. below {P = λ (k : ℕ). argumentsLength k ≤ 29} (λ (k : ℕ). at-most) .0 refl call (ltb-true call 17 known))
     (λ past. let none = ap total (List·getD-eq-default argumentWidths [] (ltb-false call 17 past)) in omega (arith, none))
 
 -- a frame of more than 30 bytes

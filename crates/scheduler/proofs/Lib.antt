@@ -11,7 +11,9 @@
 --
 --   Histories   demands 2 and 3 on the code
 --
--- How the rules' laws are shown: Says pairs tests with facts, Lists and Parts are about lists and stores, Invariant is acceptance as the proofs
+-- and what any crate may use of tests: Says pairs each test with the fact that it tests.
+--
+-- How the rules' laws are shown: Lists and Parts are about lists and stores, Invariant is acceptance as the proofs
 -- carry it, Moves are the changes that calls are made of, Effects what each call does, Course every call followed once, Turns one call as X
 -- sees it.
 --
@@ -28,7 +30,7 @@ pub mod Stretches
 pub mod Worked
 pub mod Asked
 pub mod Histories
-mod Says
+pub mod Says
 mod Lists
 mod Parts
 mod Invariant
