@@ -16,7 +16,7 @@ use Rattle.records.proofs.Cases.{split}
 use Rattle.scheduler.specs.Accepted.{Each, everyBelow}
 use Rattle.scheduler.proofs.Says.{equal, below}
 use Rattle.frames.specs.Hex.{within, isDigit, digitValue, digitOf, isHex, byteOf, fromHex, toHex, IsDigitValue}
-use Rattle.frames.proofs.Numbers.{AllBytes}
+use Rattle.frames.specs.Bytes.{AllBytes}
 
 -- ---- one digit
 

@@ -9,12 +9,8 @@ use native.Mathlib.Numerals.{add-one}
 use lib.ListN.{length, getD, take, drop, set, length-append, length-drop}
 use lib.Seq.{sets, take-suc, take-all, getD-drop}
 use Rattle.scheduler.specs.Accepted.{Each}
-use Rattle.frames.specs.Bytes.{bigEndianFrom, bigEndian, bytesOf, written, IsNumber}
+use Rattle.frames.specs.Bytes.{AllBytes, bigEndianFrom, bigEndian, bytesOf, written, IsNumber}
 use Rattle.frames.proofs.Stores.{sets-snoc}
-
--- every element is a byte
-abbrev pub AllBytes : List ℕ → Type 0
-AllBytes bytes = Each (λ (b : ℕ). b < 256) bytes
 
 -- ---- the bytes of a number
 

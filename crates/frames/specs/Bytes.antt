@@ -5,6 +5,11 @@ use Prim.Native.Nat.{ℕ, zero, suc, _+_, _*_, _/_, _%_, _<_, _^_}
 use mathlib.Core.Path.{_≡_}
 use lib.ListN.{length, take, drop}
 use lib.Seq.{sets}
+use Rattle.scheduler.specs.Accepted.{Each}
+
+-- every element is a byte
+abbrev pub AllBytes : List ℕ → Type 0
+AllBytes bytes = Each (λ (b : ℕ). b < 256) bytes
 
 -- the number that bytes stand for, the first byte the largest, behind a number read before
 unfoldable pub bigEndianFrom : ℕ → List ℕ → ℕ
@@ -32,6 +37,17 @@ abbrev pub written : List ℕ → List ℕ → List ℕ
 written [] numbers = []
 written (width ∷ widths) [] = []
 written (width ∷ widths) (x ∷ numbers) = bytesOf width x ++ written widths numbers
+
+-- the numbers that stand one behind the other from a place on, each in its width
+abbrev pub numbersAt : ℕ → List ℕ → List ℕ → List ℕ
+numbersAt at [] bytes = []
+numbersAt at (width ∷ widths) bytes = numberAt at width bytes ∷ numbersAt (at + width) widths bytes
+
+-- each number fits its width
+unfoldable pub Fit : List ℕ → List ℕ → Type 0
+Fit [] numbers = Unit
+Fit (width ∷ widths) [] = Unit
+Fit (width ∷ widths) (x ∷ numbers) = (x < 256 ^ width) × Fit widths numbers
 
 -- how many bytes they take
 abbrev pub total : List ℕ → ℕ

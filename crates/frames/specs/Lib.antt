@@ -9,5 +9,7 @@ pub mod Bytes
 pub mod Hex
 pub mod Frame
 pub mod Answer
+pub mod Image
+pub mod AcceptedImage
 pub mod Lines
 pub mod Blocks

@@ -1,10 +1,10 @@
 -- Document 01's rules for a queue, on its list of entries from front to tail: the table of refusals (full), "Waiting and waking" (push and
--- removal), "Picking" (the entry at a place, and taking it) and "Task record, queues, holders" (count).
+-- removal), "Picking" (the entry at a place, and taking it) and "Task record, queues, holders" (places, count).
 use mathlib.Core.Bool.{Bool, cond, not, _&&_}
 use mathlib.Core.List.{List, [], _∷_, _++_}
-use Prim.Native.Nat.{ℕ, suc, _+_}
+use Prim.Native.Nat.{ℕ, suc, _+_, _-_}
 use lib.Dec.{ltb, leb, eqb}
-use lib.ListN.{length, getD, take, drop}
+use lib.ListN.{length, getD, take, drop, replicate}
 use Rattle.records.specs.declared.ids.SlotOption.{SlotOption}
 use Rattle.records.specs.declared.ids.SlotOption.the-variants.{None, Some}
 
@@ -32,6 +32,10 @@ entryAt place es = cond (ltb place (length es)) (Some (record { 0 = getD es plac
 -- rule P: "Entries before it move to that queue's tail in their order and it leaves." Past the tail this is the list itself.
 unfoldable pub takenAt : ℕ → List ℕ → List ℕ
 takenAt place es = drop (suc place) es ++ take place es
+
+-- the image's "64 slot bytes from front to tail, unused ones 0"
+unfoldable pub places : List ℕ → List ℕ
+places es = es ++ replicate (64 - length es) 0
 
 -- how often a slot stands in the list: of a Ready slot, acceptance asks that it "stands in the queues once"
 unfoldable pub count : ℕ → List ℕ → ℕ

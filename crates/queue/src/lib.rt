@@ -7,7 +7,7 @@ ghost use mathlib.Core.Path.{_≡_};
 ghost use lib.ListN.{length};
 ghost use mathlib.Core.List.{[]};
 ghost use Rattle.queue.specs.Stored.{entries, WellFormed, Holds};
-ghost use Rattle.queue.specs.Rules.{entryAt, without};
+ghost use Rattle.queue.specs.Rules.{entryAt, without, places};
 ghost use Rattle.queue.specs.Answers.{Push, Take};
 use records::MAX_TASKS;
 use records::Slot;
@@ -121,6 +121,22 @@ impl BandQueue {
             return SlotOption::None;
         }
         SlotOption::Some(slot_of(self.ring[(head + place) % MAX_TASKS]))
+    }
+
+    // The 64 places of the queue's image: the entries from front to tail, and 0 behind them.
+    pub fn places(self) -> [u8; MAX_TASKS]
+        requires { ⌜ WellFormed self ⌝ }
+        ensures { λ r. ⌜ r ≡ places (entries self) ⌝ }
+    {
+        let len = self.len;
+        let head = self.head;
+        let mut places = [0; MAX_TASKS];
+        let mut place = 0;
+        while place < len {
+            places[place] = self.ring[(head + place) % MAX_TASKS];
+            place += 1;
+        }
+        places
     }
 
     // What picking does: the entry at a place leaves, and those before it go to the tail in their order. Past the tail

@@ -20,13 +20,13 @@ pub(crate) const NO_HOLDER: u8 = 255;
 
 pub struct QoSScheduler {
     // A record for each slot.
-    pub(crate) tasks: [TaskControlBlock; MAX_TASKS],
+    pub tasks: [TaskControlBlock; MAX_TASKS],
     // A queue for each band, at the band's code.
-    pub(crate) queues: [BandQueue; BAND_COUNT],
+    pub queues: [BandQueue; BAND_COUNT],
     // The slot that each core holds, or NO_HOLDER.
-    pub(crate) current: [u8; MAX_CPUS],
+    pub current: [u8; MAX_CPUS],
     // The time that ticks have reported, going on from 0 past the largest.
-    pub(crate) system_ticks_us: u64,
+    pub system_ticks_us: u64,
 }
 
 // What a call gives back: its answer, and the state after it.

@@ -1,0 +1,129 @@
+-- Document 01, "Task record, queues, holders": the image. `imageOf` is the bytes of a state, `stateAt` the state that bytes stand for; both are
+-- total, and which bytes are an image that is accepted is AcceptedImage.antt's matter. The table has every length and place once.
+use mathlib.Core.List.{List, [], _∷_, _++_}
+use Prim.Native.Nat.{ℕ, zero, suc, _+_, _*_, _<_, _^_}
+use lib.Dec.{eqb}
+use lib.ListN.{length, getD, take, drop}
+use Rattle.records.specs.declared.band.QoSClass.{QoSClass}
+use Rattle.records.specs.declared.band.QoSClass.the-variants.{UserInteractive, RealTimeIO, Background}
+use Rattle.records.specs.declared.state.ThreadState.{ThreadState}
+use Rattle.records.specs.declared.state.ThreadState.the-variants.{Ready, Running, Blocked, Terminated}
+use Rattle.records.specs.declared.task.TaskControlBlock.{TaskControlBlock}
+use Rattle.records.specs.Band.{bandCode}
+use Rattle.queue.specs.Rules.{places}
+use Rattle.scheduler.specs.Accepted.{Each}
+use Rattle.scheduler.specs.Paper.{recordNumbers}
+use Rattle.scheduler.specs.State.{State, Queues, bandOrder}
+use Rattle.frames.specs.Answer.{recordWidths, recordBytes}
+use Rattle.frames.specs.Bytes.{bytesOf, part, numberAt, numbersAt, total, Fit}
+
+-- ---- the table
+
+-- "A record is 47 bytes"
+abbrev pub recordLength : ℕ
+recordLength = total recordWidths
+
+-- "a length byte and 64 slot bytes"
+abbrev pub queueLength : ℕ
+queueLength = 1 + 64
+
+-- "64 records (3,008), three queues [..] (195), holders (64), system microseconds (8)"
+abbrev pub recordPlace : ℕ → ℕ
+recordPlace slot = recordLength * slot
+
+abbrev pub queuePlace : QoSClass → ℕ
+queuePlace band = 64 * recordLength + queueLength * bandCode band
+
+abbrev pub holdersPlace : ℕ
+holdersPlace = 64 * recordLength + 3 * queueLength
+
+abbrev pub microsPlace : ℕ
+microsPlace = holdersPlace + 64
+
+-- "The image (added) is 3,275 bytes"
+abbrev pub imageLength : ℕ
+imageLength = microsPlace + 8
+
+-- ---- the bytes of a state
+
+unfoldable pub recordsBytes : List TaskControlBlock → List ℕ
+recordsBytes [] = []
+recordsBytes (t ∷ tasks) = recordBytes t ++ recordsBytes tasks
+
+-- "a length byte and 64 slot bytes from front to tail, unused ones 0"
+unfoldable pub queueBytes : List ℕ → List ℕ
+queueBytes es = length es ∷ places es
+
+unfoldable pub queuesBytes : Queues → List ℕ
+queuesBytes q = queueBytes (q .interactive) ++ queueBytes (q .realTime) ++ queueBytes (q .background)
+
+unfoldable pub imageOf : State → List ℕ
+imageOf s = recordsBytes (s .tasks) ++ queuesBytes (s .queues) ++ s .holders ++ bytesOf 8 (s .micros)
+
+-- ---- the state of bytes
+
+-- a band or state by its code; a byte that is no code reads as the empty record's
+abbrev pub bandOf : ℕ → QoSClass
+bandOf code = getD bandOrder code Background
+
+abbrev pub stateOf : ℕ → ThreadState
+stateOf code = getD (Ready ∷ Running ∷ Blocked ∷ Terminated ∷ []) code Terminated
+
+-- a record from its ten numbers, which stand in the paper's order
+abbrev pub recordOf : List ℕ → TaskControlBlock
+recordOf numbers = record {
+  tid = record { 0 = getD numbers 0 0 };
+  qos = bandOf (getD numbers 1 0);
+  state = stateOf (getD numbers 2 0);
+  «context_handle» = getD numbers 3 0;
+  cr3 = getD numbers 4 0;
+  rsp0 = getD numbers 5 0;
+  «cpu_affinity» = getD numbers 6 0;
+  «slice_budget_us» = getD numbers 7 0;
+  «consumed_slice_us» = getD numbers 8 0;
+  «in_use» = eqb (getD numbers 9 0) 1;
+}
+
+-- the record that 47 bytes stand for
+unfoldable pub recordIn : List ℕ → TaskControlBlock
+recordIn bytes = recordOf (numbersAt 0 recordWidths bytes)
+
+-- the first n records
+unfoldable pub recordsIn : ℕ → List ℕ → List TaskControlBlock
+recordsIn zero bytes = []
+recordsIn (suc n) bytes = recordIn (take recordLength bytes) ∷ recordsIn n (drop recordLength bytes)
+
+-- the 47 bytes of a slot's record, the 65 bytes of a band's queue, and in these the length byte and the entries
+abbrev pub recordAt : ℕ → List ℕ → List ℕ
+recordAt slot image = part (recordPlace slot) recordLength image
+
+abbrev pub queueAt : QoSClass → List ℕ → List ℕ
+queueAt band image = part (queuePlace band) queueLength image
+
+abbrev pub lengthByte : List ℕ → ℕ
+lengthByte bytes = getD bytes 0 0
+
+abbrev pub slotByte : ℕ → List ℕ → ℕ
+slotByte place bytes = getD bytes (suc place) 0
+
+abbrev pub queueIn : List ℕ → List ℕ
+queueIn bytes = part 1 (lengthByte bytes) bytes
+
+unfoldable pub stateAt : List ℕ → State
+stateAt image = record {
+  tasks = recordsIn 64 image;
+  queues = record {
+    interactive = queueIn (queueAt UserInteractive image);
+    realTime = queueIn (queueAt RealTimeIO image);
+    background = queueIn (queueAt Background image);
+  };
+  holders = part holdersPlace 64 image;
+  micros = numberAt microsPlace 8 image;
+}
+
+-- ---- sizes
+
+-- a state whose numbers fit the fields of an image: those of the records, and the microseconds; acceptance bounds all others
+pub record FitsImage (s : State) : Type 0 where
+  pub records : Each (λ (t : TaskControlBlock). Fit recordWidths (recordNumbers t)) (s .tasks)
+  pub micros : s .micros < 256 ^ 8
