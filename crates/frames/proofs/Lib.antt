@@ -16,6 +16,9 @@ pub mod Stores
 pub mod Numbers
 pub mod Digits
 pub mod Sizes
+pub mod Widths
+pub mod Images
+pub mod AcceptedImages
 pub mod Refused
 pub mod Texts
 pub mod Moving
@@ -27,3 +30,5 @@ mod Cuts
 mod Tellings
 mod Onward
 mod Progress
+mod Writings
+mod Typed

@@ -19,7 +19,7 @@ unfolding bytesOf
 length-bytesOf zero x = refl
 length-bytesOf (suc width) x = simp length-append (omega (arith, length-bytesOf width (x / 256)))
 
-bytes-append : (a b : List ℕ) → AllBytes a → AllBytes b → AllBytes (a ++ b)
+pub bytes-append : (a b : List ℕ) → AllBytes a → AllBytes b → AllBytes (a ++ b)
 unfolding Each
 bytes-append [] b ha hb = hb
 bytes-append (x ∷ a) b ha hb = (ha .0, bytes-append a b (ha .1) hb)

@@ -2,11 +2,12 @@
 -- Assumes nothing.
 use mathlib.Core.Path.{_≡_, refl, sym, ap, _∙_}
 use mathlib.Core.List.{List, [], _∷_, _++_}
-use Prim.Native.Nat.{ℕ, suc, _+_, _≤_}
+use Prim.Native.Nat.{ℕ, suc, _+_, _≤_, _<_}
 use native.Mathlib.Omega.{arith}
 use native.Mathlib.Nat.{add-zero, add-suc, suc-add}
-use lib.ListN.{length, take, set}
-use lib.Seq.{sets, sets-eq, set-comm, take-at}
+use native.Mathlib.Numerals.{add-one}
+use lib.ListN.{length, getD, take, drop, set}
+use lib.Seq.{sets, sets-eq, set-comm, take-at, take-all, drop-cons, length-sets}
 
 -- first some, then the rest behind them
 pub sets-append : (o : List ℕ) (at : ℕ) (a b : List ℕ) → sets o at (a ++ b) ≡ sets (sets o at a) (at + length a) b
@@ -26,6 +27,17 @@ set-sets-past o i at x (y ∷ a) h =
 pub sets-snoc : (o : List ℕ) (at : ℕ) (a : List ℕ) (x : ℕ) → sets o at (a ++ (x ∷ [])) ≡ sets (set o (at + length a) x) at a
 sets-snoc o at a x = sets-append o at a (x ∷ []) ∙ sym (set-sets-past o (at + length a) at x a (omega arith))
 
+-- a run stored byte by byte: one more byte, and what is left of it behind that one
+pub sets-on : (o : List ℕ) {now : List ℕ} (at k : ℕ) (a : List ℕ) → k < length a → now ≡ set o (at + k) (getD a k 0)
+    → sets now (at + (k + 1)) (drop (k + 1) a) ≡ sets o (at + k) (drop k a)
+sets-on o at k a h e =
+    let next : at + (k + 1) ≡ suc (at + k) = omega arith in
+    (λ i. sets (e i) (next i) (drop (add-one k i) a)) ∙ ap (sets o (at + k)) (sym (drop-cons a k 0 h))
+
 -- what was stored at the front stands there
 pub take-sets : (o a : List ℕ) → length a ≤ length o → take (length a) (sets o 0 a) ≡ a
 take-sets o a h = ap (take (length a)) (sets-eq a o 0 (omega (arith, h))) ∙ take-at a _ (length a) refl
+
+-- a run that is as long as the buffer is all that is left
+pub sets-all : (o a : List ℕ) → length a ≡ length o → sets o 0 a ≡ a
+sets-all o a e = sym (take-all (length a) (sets o 0 a) (omega (arith, e, length-sets o 0 a))) ∙ take-sets o a (omega (arith, e))

@@ -31,11 +31,14 @@ queueLength = 1 + 64
 abbrev pub recordPlace : ℕ → ℕ
 recordPlace slot = recordLength * slot
 
+abbrev pub queuesPlace : ℕ
+queuesPlace = 64 * recordLength
+
 abbrev pub queuePlace : QoSClass → ℕ
-queuePlace band = 64 * recordLength + queueLength * bandCode band
+queuePlace band = queuesPlace + queueLength * bandCode band
 
 abbrev pub holdersPlace : ℕ
-holdersPlace = 64 * recordLength + 3 * queueLength
+holdersPlace = queuesPlace + 3 * queueLength
 
 abbrev pub microsPlace : ℕ
 microsPlace = holdersPlace + 64

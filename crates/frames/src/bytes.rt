@@ -1,6 +1,7 @@
 // Big-endian numbers in a slice of bytes, by one law over the width.
 ghost use mathlib.Core.Path.{_≡_};
 ghost use Prim.Native.Nat.{_+_, _^_, _≤_, _<_};
+ghost use lib.ListN.{length};
 ghost use lib.Seq.{sets};
 ghost use Rattle.frames.specs.Bytes.{IsNumber, bytesOf};
 
@@ -36,6 +37,20 @@ pub(crate) fn put_number(bytes: &mut [u8], at: usize, width: usize, number: u64)
             bytes[at + k] = (left % 256) as u8;
         }
         left /= 256;
+    }
+}
+
+// The bytes stored from `at` on. A byte that has no place in the slice is not stored.
+pub(crate) fn put_bytes(bytes: &[u8], out: &mut [u8], at: usize)
+    requires { ⌜ at + length (now bytes) < 2 ^ 64 ⌝ }
+    ensures { λ _. ⌜ now (out .exit) ≡ sets (now (out .entry)) at (now (bytes .entry)) ⌝ }
+{
+    let mut k = 0;
+    while k < bytes.len() {
+        if at + k < out.len() {
+            out[at + k] = bytes[k];
+        }
+        k += 1;
     }
 }
 

@@ -7,6 +7,9 @@ ghost use Rattle.frames.specs.Answer.{answerBytes, valueBytes, recordByt
 ghost use Rattle.frames.specs.Bytes.{Puts, written};
 ghost use Rattle.scheduler.specs.Paper.{statusNumber, pickNumbers, slotNumber, coreNumber, flagNumber};
 use crate::bytes::put_number;
+use crate::layout::BUDGET_AT;
+use crate::layout::CONTEXT_AT;
+use crate::layout::RECORD_BYTES;
 use records::SlotOption;
 use records::TaskControlBlock;
 use scheduler::Answer;
@@ -22,20 +25,11 @@ use scheduler::Value;
 // Where the value stands in an answer: behind the status, the pick's slot and the pick's band.
 pub(crate) const VALUE_AT: usize = 3;
 
-// How many bytes a record has.
-const RECORD_BYTES: usize = 47;
-
 // 01 and a record.
 const TASK_BYTES: usize = 1 + RECORD_BYTES;
 
 // 01, previous, target and cr3.
 const SWITCH_BYTES: usize = 11;
-
-// Where context, cr3, rsp0 and mask stand in a record: behind tid, band and state.
-const CONTEXT_AT: usize = 6;
-
-// Where budget, consumed and in use stand in a record: behind those.
-const TIMES_AT: usize = 38;
 
 // The longest answer: status, pick, 01 and a record.
 pub const ANSWER_MAX: usize = VALUE_AT + TASK_BYTES;
@@ -161,7 +155,7 @@ pub(crate) fn put_record(task: TaskControlBlock, out: &mut [u8], at: usize)
 {
     put_identity(task, out, at);
     put_context(task, out, at + CONTEXT_AT);
-    put_times(task, out, at + TIMES_AT);
+    put_times(task, out, at + BUDGET_AT);
 }
 
 // tid, band, state

@@ -15,6 +15,8 @@ mod bytes;
 mod decode;
 mod encode;
 mod hex;
+mod image;
+mod layout;
 mod lines;
 
 pub use blocks::kept_from;

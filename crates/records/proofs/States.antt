@@ -1,8 +1,8 @@
--- The states: reading a code gives back the state that has it, and only codes are read; states with one code are one state.
+-- The states: their codes are below 4; reading a code gives back the state that has it, and only codes are read; states with one code are one state.
 -- Assumes nothing.
 use mathlib.Core.Path.{_≡_, refl, sym, ap, _∙_}
 use mathlib.Core.Bool.{true}
-use Prim.Native.Nat.{ℕ, zero, suc, _≤_}
+use Prim.Native.Nat.{ℕ, zero, suc, _≤_, _<_}
 use native.Mathlib.Omega.{arith}
 use borrow.Author.Tests.{eqb-true, eq-eqb}
 use lib.ListN.{List·getD-eq-default}
@@ -10,6 +10,12 @@ use Rattle.records.specs.declared.state.ThreadState.{ThreadState}
 use Rattle.records.specs.declared.state.ThreadState.the-variants.{Ready, Running, Blocked, Terminated}
 use Rattle.records.specs.declared.state.StateOption.the-variants as state
 use Rattle.records.specs.State.{stateCode, states, stateAt, isState}
+
+pub stateCode-small : (s : ThreadState) → stateCode s < 4
+stateCode-small Ready = omega arith
+stateCode-small Running = omega arith
+stateCode-small Blocked = omega arith
+stateCode-small Terminated = omega arith
 
 pub stateAt-code : (s : ThreadState) → stateAt (stateCode s) ≡ state.Some s
 stateAt-code Ready = refl

@@ -11,13 +11,14 @@
 --
 --   Histories   demands 2 and 3 on the code
 --
--- and what any crate may use of tests: Says pairs each test with the fact that it tests.
+-- and what any crate may use of tests and of the stored scheduler: Says pairs each test with the fact that it tests, Stored reads the
+-- scheduler's arrays as the state that they hold.
 --
 -- How the rules' laws are shown: Lists and Parts are about lists and stores, Invariant is acceptance as the proofs
 -- carry it, Moves are the changes that calls are made of, Effects what each call does, Course every call followed once, Turns one call as X
 -- sees it.
 --
--- How the code is shown to follow the rules: Stored is about the stored scheduler's arrays, Searches, Seeking and Removals about the loops,
+-- How the code is shown to follow the rules: Searches, Seeking and Removals about the loops,
 -- Holders about a core's holder; Promises makes a contract of what a method did; OnSlots, OnCores, OnTicks and OnPlans have a law for each way out
 -- of the methods, and Answers for each way out of the queries and the private parts. The functions' own proofs cite these.
 pub mod KCases
@@ -31,14 +32,14 @@ pub mod Worked
 pub mod Asked
 pub mod Histories
 pub mod Says
+pub mod Stored
+pub mod Invariant
 mod Lists
 mod Parts
-mod Invariant
 mod Moves
 mod Effects
 mod Course
 mod Turns
-mod Stored
 mod Searches
 mod Seeking
 mod Removals

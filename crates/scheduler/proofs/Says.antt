@@ -1,7 +1,7 @@
 -- Tests and what they say: each single test is paired with the fact that it tests, and the pairs are put together as the tests are.
 -- Assumes nothing.
 use mathlib.Core.Path.{_≡_, refl, sym, ap}
-use mathlib.Core.Bool.{Bool, true, false, not, _&&_, _||_, Bool·beq, false≢true, and-eq-true-iff}
+use mathlib.Core.Bool.{Bool, true, false, cond, not, _&&_, _||_, Bool·beq, false≢true, and-eq-true-iff}
 use mathlib.Core.List.{List, [], _∷_}
 use mathlib.Core.Logic.{_↔_, _⊎_, inl, inr, ⊎-elim, Iff·rfl, Iff·trans, Iff·and}
 use Prim.Native.Nat.{ℕ, zero, suc, _≤_, _<_}
@@ -19,7 +19,7 @@ use Rattle.records.proofs.Bands.{bandCode-one}
 use Rattle.records.proofs.Cases.{split}
 use Rattle.records.proofs.States.{isState-true, isState-same}
 use Rattle.scheduler.specs.State.{bandOrder}
-use Rattle.scheduler.specs.Accepted.{ReadyOf, MayHold, every, everyBelow, readyOf, mayHold}
+use Rattle.scheduler.specs.Accepted.{Each, ReadyOf, MayHold, every, everyBelow, readyOf, mayHold}
 
 -- the test passes exactly where P holds
 abbrev pub Says : Bool → Type 0 → Type 0
@@ -65,6 +65,19 @@ pub implies : {a b : Bool} {P Q : Type 0} → Says a P → Says b Q → Says (no
 implies {a = true} p q = (λ e _. q .0 e, λ f. q .1 (f (p .0 refl)))
 implies {a = false} p q = (λ _ h. absurd (false≢true (p .1 h)), λ _. refl)
 
+-- one of two tests, as a number is below another or not
+pub within : {i n : ℕ} {b c : Bool} {P Q : Type 0} → Says b P → Says c Q → Says (cond (ltb i n) b c) ((i < n → P) × (n ≤ i → Q))
+within {i} {n} {b} {c} {P} {Q} p q =
+    split (λ (t : Bool). Says (cond t b c) ((i < n → P) × (n ≤ i → Q))) (ltb i n)
+    (λ is. let low : i < n = ltb-true i n is in (λ e. (λ _. p .0 e, λ past. absurd (omega arith)), λ f. p .1 (f .0 low)))
+    (λ no. let past : n ≤ i = ltb-false i n no in (λ e. (λ low. absurd (omega arith), λ _. q .0 e), λ f. q .1 (f .1 past)))
+
+-- every element of a list, as one fact
+pub all-of : {A : Type 0} {test : A → Bool} {P : A → Type 0} → ((a : A) → Says (test a) (P a)) → (l : List A) → Says (every test l) (Each P l)
+unfolding every Each
+all-of says [] = (λ _. tt, λ _. refl)
+all-of says (a ∷ l) = both (says a) (all-of says l)
+
 -- every number below n
 module _ {test : ℕ → Bool} {P : ℕ → Type 0} (says : (k : ℕ) → Says (test k) (P k)) where
   last-too : (n : ℕ) → P n × ((k : ℕ) → k < n → P k) → (k : ℕ) → k < suc n → P k
@@ -78,7 +91,7 @@ module _ {test : ℕ → Bool} {P : ℕ → Type 0} (says : (k : ℕ) → Says (
   below {n = zero} = (λ _ k h. absurd (omega arith), λ _. refl)
   below {n = suc n} = Iff·trans (both (says n) below) (last-too n, λ all. (all n (omega arith), λ k h. all k (omega arith)))
 
--- every element of a list
+-- every element of a list, by its place
 module _ {A : Type 0} {test : A → Bool} {P : A → Type 0} (says : (a : A) → Says (test a) (P a)) (d : A) where
   pub each : (l : List A) → Says (every test l) ((i : ℕ) → i < length l → P (getD l i d))
   unfolding every

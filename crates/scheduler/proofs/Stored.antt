@@ -62,7 +62,7 @@ band-at (suc (suc zero)) low = (Background, refl)
 band-at (suc (suc (suc n))) low = absurd (omega arith)
 
 module _ (qs : List BandQueue) (w : Whole qs) (b : QoSClass) where
-  ring-of : (d : BandQueue) → WellFormed (getD qs (bandCode b) d)
+  pub ring-of : (d : BandQueue) → WellFormed (getD qs (bandCode b) d)
   unfolding Each
   ring-of d = three (λ (l : List BandQueue). Each WellFormed l → WellFormed (getD l (bandCode b) d)) (λ x y z. by-band x y z b) qs (w .bands) (w .rings)
     where
@@ -71,7 +71,7 @@ module _ (qs : List BandQueue) (w : Whole qs) (b : QoSClass) where
       by-band x y z RealTimeIO h = h .1 .0
       by-band x y z Background h = h .1 .1 .0
 
-  entries-of : (d : BandQueue) → entries (getD qs (bandCode b) d) ≡ ofBand (queuesOf qs) b
+  pub entries-of : (d : BandQueue) → entries (getD qs (bandCode b) d) ≡ ofBand (queuesOf qs) b
   unfolding queuesOf
   entries-of d = three (λ (l : List BandQueue). entries (getD l (bandCode b) d) ≡ ofBand (queuesOf l) b) (λ x y z. by-band x y z b) qs (w .bands)
     where

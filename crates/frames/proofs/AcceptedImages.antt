@@ -1,0 +1,225 @@
+-- Accepted images: the test that computes passes exactly the bytes that meet document 01's list of conditions; the state that an accepted image
+-- stands for is accepted; and an accepted state whose numbers fit has an accepted image. Assumes nothing.
+use mathlib.Core.Path.{_≡_, refl, sym, ap, subst, _∙_}
+use mathlib.Core.Bool.{Bool, true, false}
+use mathlib.Core.List.{List, [], _∷_, _++_}
+use mathlib.Core.Logic.{⊎-elim, Iff·trans}
+use Prim.Native.Nat.{ℕ, zero, suc, _-_, _≤_, _<_}
+use native.Mathlib.Omega.{arith}
+use lib.Dec.{ltb}
+use lib.ListN.{length, getD, drop, replicate, length-take, List·getD-eq-default}
+use lib.Seq.{getD-take}
+use Rattle.records.specs.declared.band.QoSClass.{QoSClass}
+use Rattle.records.specs.declared.band.QoSClass.the-variants.{UserInteractive, RealTimeIO, Background}
+use Rattle.records.specs.declared.task.TaskControlBlock.{TaskControlBlock}
+use Rattle.records.specs.Task.{emptyRecord}
+use Rattle.records.proofs.Bands.{bandCode-small}
+use Rattle.records.proofs.States.{stateCode-small}
+use Rattle.queue.specs.Rules.{places}
+use Rattle.scheduler.specs.declared.scheduler.QoSScheduler.{QoSScheduler}
+use Rattle.scheduler.specs.Accepted.{Accepted, Each}
+use Rattle.scheduler.specs.Paper.{flagNumber, recordNumbers}
+use Rattle.scheduler.specs.Scheduler.{Valid, abs}
+use Rattle.scheduler.specs.State.{State, noneByte, task, queue, holder}
+use Rattle.scheduler.proofs.Invariant.{ready-in-table, used-in-table}
+use Rattle.scheduler.proofs.Says.{Says, equal, less, at-most, same, same-state, both, either, never, implies, within, all-of, below, each, bands, ready-of, may-hold}
+use Rattle.frames.specs.AcceptedImage.{AcceptedImage, slotFits, placeFits, bandFits, coreFits, acceptsImage}
+use Rattle.frames.specs.Answer.{recordWidths, recordBytes}
+use Rattle.frames.specs.Bytes.{AllBytes, bytesOf, numbersAt, Fit}
+use Rattle.frames.specs.Image.{holdersPlace, recordsBytes, queueBytes, queuesBytes, imageOf, recordAt, queueAt, lengthByte, slotByte, queueIn, stateAt, FitsImage}
+use Rattle.frames.proofs.Numbers.{bytes-append, bytesOf-bytes, written-bytes}
+use Rattle.frames.proofs.Widths.{length-part, numbersAt-written}
+use Rattle.frames.proofs.Images.{length-tasks, record-at, queue-at, length-imageOf, reads-back}
+
+-- ---- the test and the conditions
+
+-- the test passes exactly the images that are accepted
+pub accepts-image : (image : List ℕ) → Says (acceptsImage image) (AcceptedImage image)
+unfolding acceptsImage slotFits placeFits bandFits coreFits
+accepts-image image =
+    Iff·trans (both (both (both (both (both equal (all-of (λ _. less) image))
+    (below (λ _. both (both (both less less) less) (both (both (both same (never equal)) (either equal equal)) less))))
+    (bands (λ band. both at-most (below (λ _. within (ready-of band _) equal)))))
+    (below (λ _. implies same-state equal)))
+    (below (λ _. either equal may-hold))) (
+      λ (((((length-is, bytes), slots), queues), once), holders). record {
+        length-is = length-is;
+        bytes = bytes;
+        bands = λ slot h. slots slot h .0 .0 .0;
+        states = λ slot h. slots slot h .0 .0 .1;
+        in-uses = λ slot h. slots slot h .0 .1;
+        in-use = λ slot h. slots slot h .1 .0 .0 .0;
+        masks = λ slot h. slots slot h .1 .0 .0 .1;
+        lengths = λ band. queues band .0;
+        unused = λ band place past h. queues band .1 place h .1 past;
+        entries = λ band place inside. queues band .1 place (omega (arith, queues band .0)) .0 inside;
+        once = once;
+        holders = holders;
+        budgets = λ slot h. slots slot h .1 .0 .1;
+        consumed = λ slot h. slots slot h .1 .1;
+      },
+      λ a. search (a .bands, a .states, a .in-uses, a .in-use, a .masks, a .lengths, a .unused, a .entries, a .once, a .holders, a .budgets, a .consumed) depth 10,
+    )
+
+-- ---- the state that an accepted image stands for
+
+-- a band's queue is read from its 65 bytes
+queue-read : (image : List ℕ) (band : QoSClass) → queue (stateAt image) band ≡ queueIn (queueAt band image)
+unfolding stateAt
+queue-read image UserInteractive = refl
+queue-read image RealTimeIO = refl
+queue-read image Background = refl
+
+-- the length byte bounds it
+length-queueIn : (bytes : List ℕ) → length (queueIn bytes) ≤ lengthByte bytes
+length-queueIn bytes = rw (length-take (lengthByte bytes) (drop 1 bytes)) (omega arith)
+
+-- the slot bytes stand behind the length byte
+getD-tail : (bytes : List ℕ) (place : ℕ) → getD (drop 1 bytes) place 0 ≡ slotByte place bytes
+getD-tail [] place = refl
+getD-tail (b ∷ bytes) place = refl
+
+-- an entry that is read is its slot byte
+entry-read : (bytes : List ℕ) (place : ℕ) → place < lengthByte bytes → getD (queueIn bytes) place 0 ≡ slotByte place bytes
+entry-read bytes place h = getD-take (lengthByte bytes) (drop 1 bytes) place 0 h ∙ getD-tail bytes place
+
+-- the state that an accepted image stands for is accepted
+pub accepted-state : (image : List ℕ) → AcceptedImage image → Accepted (stateAt image)
+unfolding stateAt
+accepted-state image a = record {
+  slots = length-tasks image;
+  cores = length-part holdersPlace 64 image (omega (arith, a .length-is));
+  in-use = a .in-use;
+  masks = a .masks;
+  lengths = λ band. rw (queue-read image band) (omega (arith, length-queueIn (queueAt band image), a .lengths band));
+  entries = λ band. rw (queue-read image band) (λ place h.
+      let inside : place < lengthByte (queueAt band image) = omega (arith, length-queueIn (queueAt band image)) in
+      rw (entry-read (queueAt band image) place inside) (a .entries band place inside));
+  once = a .once;
+  holders = a .holders;
+  budgets = a .budgets;
+  consumed = a .consumed;
+}
+
+-- ---- every element of the image of an accepted state is a byte
+
+-- a list that has a byte at every place
+bytes-by-place : (l : List ℕ) (d : ℕ) → ((i : ℕ) → i < length l → getD l i d < 256) → AllBytes l
+bytes-by-place l d h = let byte : (b : ℕ) → Says (ltb b 256) (b < 256) = λ _. less in all-of byte l .0 (each byte d l .1 h)
+
+-- the bytes of records, of zeros, of a queue
+records-bytes : (tasks : List TaskControlBlock) → AllBytes (recordsBytes tasks)
+unfolding recordsBytes recordBytes Each
+records-bytes [] = tt
+records-bytes (t ∷ tasks) = bytes-append (recordBytes t) (recordsBytes tasks) (written-bytes recordWidths (recordNumbers t)) (records-bytes tasks)
+
+getD-zeros : (n place : ℕ) → _≡_ {A = ℕ} (getD (replicate n 0) place 0) 0
+getD-zeros zero place = refl
+getD-zeros (suc n) zero = refl
+getD-zeros (suc n) (suc place) = getD-zeros n place
+
+queue-bytes : (es : List ℕ) → length es ≤ 64 → ((place : ℕ) → place < length es → getD es place 0 < 64) → AllBytes (queueBytes es)
+unfolding queueBytes places Each
+queue-bytes es few low =
+    let zeros : List ℕ = replicate (64 - length es) 0 in
+    let entries : AllBytes es = bytes-by-place es 0 (λ i h. omega (arith, low i h)) in
+    let unused : AllBytes zeros = bytes-by-place zeros 0 (λ i _. omega (arith, getD-zeros (64 - length es) i)) in
+    (omega arith, bytes-append es zeros entries unused)
+
+module _ (s : State) (a : Accepted s) where
+  -- every entry is a slot, every holder a slot or 255
+  entry-small : (band : QoSClass) (place : ℕ) → place < length (queue s band) → getD (queue s band) place 0 < 64
+  entry-small band place h =
+      ready-in-table s (a .slots) (getD (queue s band) place 0) (a .entries band place h .ready)
+
+  holder-small : (core : ℕ) → core < length (s .holders) → holder s core < 256
+  holder-small core h =
+      ⊎-elim
+      (λ none. omega arith)
+      (λ m. omega (arith, used-in-table s (a .slots) (holder s core) (m .used)))
+      (a .holders core (omega (arith, a .cores)))
+
+  band-bytes : (band : QoSClass) → AllBytes (queueBytes (queue s band))
+  band-bytes band = queue-bytes (queue s band) (a .lengths band) (entry-small band)
+
+  image-bytes : AllBytes (imageOf s)
+  unfolding imageOf queuesBytes
+  image-bytes =
+      bytes-append _ (bytesOf 8 (s .micros))
+      (bytes-append _ (s .holders)
+      (bytes-append (recordsBytes (s .tasks)) _ (records-bytes (s .tasks))
+      (bytes-append _ _ (bytes-append _ _ (band-bytes UserInteractive) (band-bytes RealTimeIO)) (band-bytes Background)))
+      (bytes-by-place (s .holders) noneByte holder-small))
+      (bytesOf-bytes 8 (s .micros))
+
+-- ---- the image of an accepted state is accepted
+
+-- the slot bytes of a queue: its entries, and zeros behind them
+slotByte-is : (place : ℕ) (es : List ℕ) → slotByte place (queueBytes es) ≡ getD es place 0
+unfolding queueBytes places
+slotByte-is place es = padded es place where
+  padded : (l : List ℕ) (i : ℕ) → getD (l ++ replicate (64 - length es) 0) i 0 ≡ getD l i 0
+  padded [] i = getD-zeros (64 - length es) i
+  padded (e ∷ l) zero = refl
+  padded (e ∷ l) (suc i) = padded l i
+
+-- its length byte
+lengthByte-is : (es : List ℕ) → lengthByte (queueBytes es) ≡ length es
+unfolding queueBytes
+lengthByte-is es = refl
+
+-- a flag is 0 or 1
+flagNumber-small : (b : Bool) → flagNumber b < 2
+flagNumber-small true = omega arith
+flagNumber-small false = omega arith
+
+-- what holds of each element holds at every place
+each-at : {A : Type 0} (P : A → Type 0) (l : List A) (i : ℕ) (d : A) → Each P l → i < length l → P (getD l i d)
+unfolding Each
+each-at P [] i d all h = absurd (omega arith)
+each-at P (a ∷ l) zero d all h = all .0
+each-at P (a ∷ l) (suc i) d all h = each-at P l i d (all .1) (omega arith)
+
+module _ (s : State) (a : Accepted s) (fits : FitsImage s) where
+  -- a number of a slot's record, as it stands in the image
+  number-is : (slot : ℕ) → slot < 64 → (i : ℕ) →
+      getD (numbersAt 0 recordWidths (recordAt slot (imageOf s))) i 0 ≡ getD (recordNumbers (task s slot)) i 0
+  unfolding recordBytes
+  number-is slot h i =
+      let fit : Fit recordWidths (recordNumbers (task s slot)) =
+      each-at (λ t. Fit recordWidths (recordNumbers t)) (s .tasks) slot emptyRecord (fits .records) (omega (arith, a .slots)) in
+      ap (λ (numbers : List ℕ). getD numbers i 0)
+      (ap (numbersAt 0 recordWidths) (record-at s (a .slots) slot h) ∙ numbersAt-written recordWidths (recordNumbers (task s slot)) refl fit)
+
+  -- the length byte and the slot bytes of a band's queue, as they stand there
+  length-is : (band : QoSClass) → lengthByte (queueAt band (imageOf s)) ≡ length (queue s band)
+  length-is band = ap lengthByte (queue-at s (a .slots) (a .lengths) band) ∙ lengthByte-is (queue s band)
+
+  slot-is : (band : QoSClass) (place : ℕ) → slotByte place (queueAt band (imageOf s)) ≡ getD (queue s band) place 0
+  slot-is band place = ap (slotByte place) (queue-at s (a .slots) (a .lengths) band) ∙ slotByte-is place (queue s band)
+
+  -- an accepted state whose numbers fit has an accepted image
+  pub image-accepted : AcceptedImage (imageOf s)
+  image-accepted =
+      let read : stateAt (imageOf s) ≡ s = reads-back s a fits in
+      let again : Accepted (stateAt (imageOf s)) = subst Accepted (sym read) a in
+      record {
+        length-is = length-imageOf s a;
+        bytes = image-bytes s a;
+        bands = λ slot h. omega (arith, number-is slot h 1, bandCode-small (task s slot .qos));
+        states = λ slot h. omega (arith, number-is slot h 2, stateCode-small (task s slot .state));
+        in-uses = λ slot h. omega (arith, number-is slot h 9, flagNumber-small (task s slot .«in_use»));
+        in-use = again .in-use;
+        masks = again .masks;
+        lengths = λ band. omega (arith, length-is band, a .lengths band);
+        unused = λ band place past _. slot-is band place ∙ List·getD-eq-default (queue s band) 0 (omega (arith, length-is band));
+        entries = λ band place h. rw (read, slot-is band place) (a .entries band place (omega (arith, length-is band)));
+        once = again .once;
+        holders = again .holders;
+        budgets = again .budgets;
+        consumed = again .consumed;
+      }
+
+-- what a valid scheduler holds is written as an accepted image
+pub written-accepted : (s : QoSScheduler) → Valid s → FitsImage (abs s) → AcceptedImage (imageOf (abs s))
+written-accepted s v = image-accepted (abs s) (v .accepted)

@@ -1,0 +1,114 @@
+-- Bytes that stand one behind the other, each piece in its width: a list cut into pieces and put together again, and the same for the numbers that
+-- the pieces stand for (`numbersAt` against `written`), both ways over any list of widths.
+-- Assumes nothing.
+use mathlib.Core.Path.{_≡_, refl, sym, ap, _∙_}
+use mathlib.Core.List.{List, [], _∷_, _++_, map, flatten, append-assoc}
+use Prim.Native.Nat.{ℕ, zero, suc, _+_, _≤_}
+use native.Mathlib.Nat.{suc-inj, suc-ne-zero}
+use native.Mathlib.Omega.{arith}
+use lib.ListN.{length, take, drop, length-append, length-take, length-drop}
+use lib.Seq.{take-at, drop-append-seam, take-add, drop-drop}
+use Rattle.scheduler.specs.Accepted.{Each}
+use Rattle.frames.specs.Bytes.{AllBytes, bigEndian, bytesOf, part, numberAt, written, numbersAt, Fit, total}
+use Rattle.frames.proofs.Numbers.{length-bytesOf, bigEndian-bytesOf, bytesOf-bigEndian}
+
+-- ---- a part
+
+-- a part that stands there is as long as was asked for
+pub length-part : (at width : ℕ) (bytes : List ℕ) → at + width ≤ length bytes → length (part at width bytes) ≡ width
+length-part at width bytes h = omega (arith, length-take width (drop at bytes), length-drop at bytes)
+
+-- what holds of each element holds of each element of a part
+each-take : {A : Type 0} (P : A → Type 0) (n : ℕ) (l : List A) → Each P l → Each P (take n l)
+unfolding Each
+each-take P zero l h = tt
+each-take P (suc n) [] h = tt
+each-take P (suc n) (a ∷ l) h = (h .0, each-take P n l (h .1))
+
+each-drop : {A : Type 0} (P : A → Type 0) (n : ℕ) (l : List A) → Each P l → Each P (drop n l)
+unfolding Each
+each-drop P zero l h = h
+each-drop P (suc n) [] h = tt
+each-drop P (suc n) (a ∷ l) h = each-drop P n l (h .1)
+
+-- a part of bytes is bytes
+pub bytes-part : (at width : ℕ) (bytes : List ℕ) → AllBytes bytes → AllBytes (part at width bytes)
+bytes-part at width bytes h = each-take _ width (drop at bytes) (each-drop _ at bytes h)
+
+-- two parts, one behind the other, are one
+pub part-add : (at width more : ℕ) (bytes : List ℕ) → part at width bytes ++ part (at + width) more bytes ≡ part at (width + more) bytes
+part-add at width more bytes =
+    ap (λ (l : List ℕ). part at width bytes ++ take more l) (sym (drop-drop width at bytes)) ∙ sym (take-add width more (drop at bytes))
+
+-- a piece behind others, and what follows it
+part-behind : (front piece rest : List ℕ) {width : ℕ} → length piece ≡ width → part (length front) width (front ++ (piece ++ rest)) ≡ piece
+part-behind front piece rest {width} e = ap (take width) (drop-append-seam front (piece ++ rest)) ∙ take-at piece rest width e
+
+past-piece : {A : Type 0} (f : ℕ → List ℕ → A) (front piece rest : List ℕ) {width : ℕ} → length piece ≡ width →
+    f (length front + width) (front ++ (piece ++ rest)) ≡ f (length (front ++ piece)) (front ++ piece ++ rest)
+past-piece f front piece rest {width} e =
+    let long : length front + width ≡ length (front ++ piece) = omega (arith, e, length-append front piece) in
+    λ i. f (long i) (sym (append-assoc front piece rest) i)
+
+-- ---- pieces
+
+-- the pieces that stand one behind the other from a place on, each in its width
+abbrev pub piecesAt : ℕ → List ℕ → List ℕ → List (List ℕ)
+piecesAt at [] bytes = []
+piecesAt at (width ∷ widths) bytes = part at width bytes ∷ piecesAt (at + width) widths bytes
+
+-- pieces put together, and cut again where they meet
+pub pieces-flatten : (front : List ℕ) (pieces : List (List ℕ)) → piecesAt (length front) (map length pieces) (front ++ flatten pieces) ≡ pieces
+unfolding flatten
+pieces-flatten front [] = refl
+pieces-flatten front (piece ∷ pieces) =
+    let rest = flatten pieces in
+    let others = past-piece (λ at l. piecesAt at (map length pieces) l) front piece rest refl ∙ pieces-flatten (front ++ piece) pieces in
+    λ i. part-behind front piece rest refl i ∷ others i
+
+-- bytes cut into pieces, and put together again
+pub flatten-pieces : (at : ℕ) (widths bytes : List ℕ) → flatten (piecesAt at widths bytes) ≡ part at (total widths) bytes
+unfolding flatten
+flatten-pieces at [] bytes = refl
+flatten-pieces at (width ∷ widths) bytes =
+    ap (λ (l : List ℕ). part at width bytes ++ l) (flatten-pieces (at + width) widths bytes) ∙ part-add at width (total widths) bytes
+
+-- as long as all of them
+pub length-flatten : (pieces : List (List ℕ)) → length (flatten pieces) ≡ total (map length pieces)
+unfolding flatten
+length-flatten [] = refl
+length-flatten (piece ∷ pieces) = length-append piece (flatten pieces) ∙ ap (λ (n : ℕ). length piece + n) (length-flatten pieces)
+
+-- ---- numbers
+
+-- a number that stands at a place, written again
+pub bytesOf-numberAt : (at width : ℕ) (bytes : List ℕ) → AllBytes bytes → at + width ≤ length bytes → bytesOf width (numberAt at width bytes) ≡ part at width bytes
+bytesOf-numberAt at width bytes h le =
+    ap (λ (n : ℕ). bytesOf n (numberAt at width bytes)) (sym (length-part at width bytes le)) ∙ bytesOf-bigEndian (part at width bytes) (bytes-part at width bytes h)
+
+-- numbers written behind other bytes, and read there
+pub numbersAt-behind : (front widths numbers : List ℕ) → length widths ≡ length numbers → Fit widths numbers →
+    numbersAt (length front) widths (front ++ written widths numbers) ≡ numbers
+unfolding Fit
+numbersAt-behind front [] [] e fit = refl
+numbersAt-behind front [] (x ∷ numbers) e fit = absurd (suc-ne-zero _ (sym e))
+numbersAt-behind front (width ∷ widths) [] e fit = absurd (suc-ne-zero _ e)
+numbersAt-behind front (width ∷ widths) (x ∷ numbers) e fit =
+    let bytes = bytesOf width x in
+    let rest = written widths numbers in
+    let long = length-bytesOf width x in
+    let first = ap bigEndian (part-behind front bytes rest long) ∙ bigEndian-bytesOf width x (fit .0) in
+    let others = past-piece (λ at l. numbersAt at widths l) front bytes rest long ∙ numbersAt-behind (front ++ bytes) widths numbers (suc-inj e) (fit .1) in
+    λ i. first i ∷ others i
+
+-- numbers written, and read back
+pub numbersAt-written : (widths numbers : List ℕ) → length widths ≡ length numbers → Fit widths numbers → numbersAt 0 widths (written widths numbers) ≡ numbers
+numbersAt-written = numbersAt-behind []
+
+-- numbers read, and written again
+pub written-numbersAt : (at : ℕ) (widths bytes : List ℕ) → AllBytes bytes → at + total widths ≤ length bytes →
+    written widths (numbersAt at widths bytes) ≡ part at (total widths) bytes
+written-numbersAt at [] bytes h le = refl
+written-numbersAt at (width ∷ widths) bytes h le =
+    (λ i. bytesOf-numberAt at width bytes h (omega (arith, le)) i ++ written-numbersAt (at + width) widths bytes h (omega (arith, le)) i)
+    ∙ part-add at width (total widths) bytes

@@ -1,0 +1,138 @@
+-- What the parts of an image leave in the buffer, put together: records one behind the other, a queue from its length and its places, three queues,
+-- and the image from all of them. Assumes nothing.
+use mathlib.Core.Path.{_≡_, refl, sym, ap, _∙_}
+use mathlib.Core.Bool.{Bool, cond}
+use mathlib.Core.List.{List, [], _∷_, _++_}
+use Prim.Native.Nat.{ℕ, suc, _+_, _*_, _≤_, _<_}
+use native.Mathlib.Omega.{arith}
+use native.Mathlib.Numerals.{add-one}
+use lib.Dec.{eqb}
+use lib.ListN.{length, getD, drop, length-append, drop-of-length-le}
+use lib.Seq.{sets, drop-cons}
+use Rattle.records.specs.declared.band.QoSClass.{QoSClass}
+use Rattle.records.specs.declared.band.QoSClass.the-variants.{UserInteractive, RealTimeIO, Background}
+use Rattle.records.specs.declared.task.TaskControlBlock.{TaskControlBlock}
+use Rattle.records.specs.Band.{bandCode}
+use Rattle.queue.specs.declared.BandQueue.{BandQueue}
+use Rattle.queue.specs.Rules.{places}
+use Rattle.queue.specs.Stored.{entries, WellFormed}
+use Rattle.scheduler.specs.declared.scheduler.QoSScheduler.{QoSScheduler}
+use Rattle.scheduler.specs.Scheduler.{queuesOf, abs, Whole, Valid}
+use Rattle.scheduler.specs.State.{Queues, ofBand}
+use Rattle.scheduler.proofs.Stored.{ring-of, entries-of}
+use Rattle.frames.specs.Answer.{recordBytes}
+use Rattle.frames.specs.Bytes.{bytesOf}
+use Rattle.frames.specs.Image.{imageLength, recordsBytes, queueBytes, queuesBytes, imageOf, FitsImage}
+use Rattle.frames.specs.AcceptedImage.{Short, WritesImage}
+use Rattle.frames.proofs.AcceptedImages.{image-accepted}
+use Rattle.frames.proofs.Images.{length-recordsBytes, length-queueBytes, length-imageOf, reads-back}
+use Rattle.frames.proofs.Runs.{behind, run}
+use Rattle.frames.proofs.Sizes.{length-recordBytes}
+use Rattle.frames.proofs.Stores.{sets-append, sets-all}
+
+-- ---- the records
+
+-- one more record, and what is left of them behind it
+pub records-on : (o : List ℕ) {now : List ℕ} (tasks : List TaskControlBlock) (slot : ℕ) (d : TaskControlBlock) → slot < length tasks
+    → now ≡ sets o (47 * slot) (recordBytes (getD tasks slot d))
+    → sets now (47 * (slot + 1)) (recordsBytes (drop (slot + 1) tasks)) ≡ sets o (47 * slot) (recordsBytes (drop slot tasks))
+unfolding recordsBytes
+records-on o tasks slot d h e =
+    let t = getD tasks slot d in
+    let next : 47 * (slot + 1) ≡ 47 * slot + length (recordBytes t) = omega (arith, length-recordBytes t) in
+    (λ i. sets (e i) (next i) (recordsBytes (drop (add-one slot i) tasks)))
+    ∙ sym (sets-append o (47 * slot) (recordBytes t) (recordsBytes (drop (suc slot) tasks)))
+    ∙ ap (λ ts. sets o (47 * slot) (recordsBytes ts)) (sym (drop-cons tasks slot d h))
+
+-- none is left
+pub records-end : (o : List ℕ) (tasks : List TaskControlBlock) (slot : ℕ) → length tasks ≤ slot → o ≡ sets o (47 * slot) (recordsBytes (drop slot tasks))
+unfolding recordsBytes
+records-end o tasks slot h = ap (λ ts. sets o (47 * slot) (recordsBytes ts)) (sym (drop-of-length-le tasks h))
+
+-- ---- the queues
+
+-- a byte is its own one byte
+one-byte : (x : ℕ) → x < 256 → bytesOf 1 x ≡ x ∷ []
+unfolding bytesOf
+one-byte x h = ap (λ (b : ℕ). b ∷ []) (omega arith)
+
+-- the length, then the places
+pub queue-put : (es : List ℕ) → length es ≤ 64 → (o : List ℕ) {o₁ o₂ : List ℕ} (at : ℕ) {x : ℕ} {ps : List ℕ} → o₁ ≡ sets o at (bytesOf 1 x) → x ≡ length es
+    → o₂ ≡ sets o₁ (at + 1) ps → ps ≡ places es → o₂ ≡ sets o at (queueBytes es)
+unfolding queueBytes
+queue-put es short o {o₁} at e₁ x e₂ p =
+    run o at 1 (at + 1) (places es) e₁ x refl (e₂ ∙ ap (sets o₁ (at + 1)) p)
+    ∙ ap (λ front. sets o at (front ++ places es)) (one-byte (length es) (omega (arith, short)))
+
+pub length-queuesBytes : (q : Queues) → Short q → length (queuesBytes q) ≡ 195
+unfolding queuesBytes
+length-queuesBytes q short =
+    let first = queueBytes (q .interactive) in
+    let second = queueBytes (q .realTime) in
+    omega (
+      arith,
+      length-append (first ++ second) (queueBytes (q .background)),
+      length-append first second,
+      length-queueBytes (q .interactive) (short UserInteractive),
+      length-queueBytes (q .realTime) (short RealTimeIO),
+      length-queueBytes (q .background) (short Background),
+    )
+
+-- the first band's, the second's behind it, the third's behind both
+queues-behind : (q : Queues) → Short q → (o : List ℕ) {o₁ o₂ o₃ : List ℕ} (at : ℕ) → o₁ ≡ sets o at (queueBytes (q .interactive))
+    → o₂ ≡ sets o₁ (at + 65) (queueBytes (q .realTime)) → o₃ ≡ sets o₂ (at + 130) (queueBytes (q .background)) → o₃ ≡ sets o at (queuesBytes q)
+unfolding queuesBytes
+queues-behind q short o at e₁ e₂ e₃ =
+    let first = queueBytes (q .interactive) in
+    let second = queueBytes (q .realTime) in
+    let n₁ = length-queueBytes (q .interactive) (short UserInteractive) in
+    let n₂ = length-queueBytes (q .realTime) (short RealTimeIO) in
+    behind o at (at + 130) (first ++ second) (queueBytes (q .background))
+    (behind o at (at + 65) first second e₁ (ap (λ (n : ℕ). at + n) (sym n₁)) e₂)
+    (omega (arith, n₁, n₂, length-append first second)) e₃
+
+module _ (qs : List BandQueue) (w : Whole qs) (short : Short (queuesOf qs)) where
+  -- each of the three may be stored
+  pub queue-fits : (b : QoSClass) (d : BandQueue) → WellFormed (getD qs (bandCode b) d) × (length (entries (getD qs (bandCode b) d)) ≤ 64)
+  queue-fits b d = (ring-of qs w b d, rw (entries-of qs w b d) (short b))
+
+  pub queues-put : (o : List ℕ) {o₁ o₂ o₃ : List ℕ} (at : ℕ) (d : BandQueue) → o₁ ≡ sets o at (queueBytes (entries (getD qs 0 d)))
+      → o₂ ≡ sets o₁ (at + 65) (queueBytes (entries (getD qs 1 d))) → o₃ ≡ sets o₂ (at + 130) (queueBytes (entries (getD qs 2 d)))
+      → o₃ ≡ sets o at (queuesBytes (queuesOf qs))
+  queues-put o {o₁} {o₂} at d e₁ e₂ e₃ =
+      let same : (b : QoSClass) (out : List ℕ) (n : ℕ) → sets out n (queueBytes (entries (getD qs (bandCode b) d))) ≡ sets out n (queueBytes (ofBand (queuesOf qs) b)) =
+      λ b out n. ap (λ es. sets out n (queueBytes es)) (entries-of qs w b d) in
+      queues-behind (queuesOf qs) short o at (e₁ ∙ same UserInteractive o at) (e₂ ∙ same RealTimeIO o₁ (at + 65)) (e₃ ∙ same Background o₂ (at + 130))
+
+-- ---- the image
+
+module _ (s : QoSScheduler) (v : Valid s) where
+  pub queues-short : Short (queuesOf (s .queues))
+  unfolding abs
+  queues-short = v .accepted .lengths
+
+  -- records, queues, holders, microseconds, over a buffer that they fill
+  pub image-put : (o : List ℕ) {o₁ o₂ o₃ o₄ : List ℕ} → length o ≡ imageLength → o₁ ≡ sets o 0 (recordsBytes (s .tasks))
+      → o₂ ≡ sets o₁ 3008 (queuesBytes (queuesOf (s .queues))) → o₃ ≡ sets o₂ 3203 (s .current) → o₄ ≡ sets o₃ 3267 (bytesOf 8 (s .«system_ticks_us»))
+      → o₄ ≡ imageOf (abs s)
+  unfolding imageOf abs
+  image-put o long e₁ e₂ e₃ e₄ =
+      let records = recordsBytes (s .tasks) in
+      let queues = queuesBytes (queuesOf (s .queues)) in
+      let n₁ : length records ≡ 3008 = length-recordsBytes (s .tasks) ∙ omega (arith, v .accepted .slots) in
+      let n₂ : length queues ≡ 195 = length-queuesBytes (queuesOf (s .queues)) queues-short in
+      let behind-records = behind o 0 3008 records queues e₁ (omega (arith, n₁)) e₂ in
+      let behind-queues = behind o 0 3203 (records ++ queues) (s .current) behind-records (omega (arith, n₁, n₂, length-append records queues)) e₃ in
+      behind o 0 3267 (records ++ queues ++ s .current) (bytesOf 8 (s .«system_ticks_us»)) behind-queues
+      (omega (arith, n₁, n₂, v .accepted .cores, length-append records queues, length-append (records ++ queues) (s .current))) e₄
+      ∙ sets-all o _ (length-imageOf (abs s) (v .accepted) ∙ sym long)
+
+  -- what the writer promises, by whether the buffer has an image's length
+  pub image-written : FitsImage (abs s) → (before : List ℕ) {after : List ℕ} {r : Bool} → eqb (length before) imageLength ≡ r
+      → after ≡ cond r (imageOf (abs s)) before → WritesImage (abs s) before after r
+  image-written fits before {after} {r} e is = record {
+    done-is = sym e;
+    image-is = rw e is;
+    accepted = image-accepted (abs s) (v .accepted) fits;
+    reads-as = reads-back (abs s) (v .accepted) fits;
+  }
