@@ -16,10 +16,8 @@ use Rattle.records.specs.Task.{emptyRecord}
 use Rattle.records.proofs.Bands.{bandCode-small}
 use Rattle.records.proofs.States.{stateCode-small}
 use Rattle.queue.specs.Rules.{places}
-use Rattle.scheduler.specs.declared.scheduler.QoSScheduler.{QoSScheduler}
 use Rattle.scheduler.specs.Accepted.{Accepted, Each}
 use Rattle.scheduler.specs.Paper.{flagNumber, recordNumbers}
-use Rattle.scheduler.specs.Scheduler.{Valid, abs}
 use Rattle.scheduler.specs.State.{State, noneByte, task, queue, holder}
 use Rattle.scheduler.proofs.Invariant.{ready-in-table, used-in-table}
 use Rattle.scheduler.proofs.Says.{Says, equal, less, at-most, same, same-state, both, either, never, implies, within, all-of, below, each, bands, ready-of, may-hold}
@@ -29,7 +27,7 @@ use Rattle.frames.specs.Bytes.{AllBytes, bytesOf, numbersAt, Fit}
 use Rattle.frames.specs.Image.{holdersPlace, recordsBytes, queueBytes, queuesBytes, imageOf, recordAt, queueAt, lengthByte, slotByte, queueIn, stateAt, FitsImage}
 use Rattle.frames.proofs.Numbers.{bytes-append, bytesOf-bytes, written-bytes}
 use Rattle.frames.proofs.Widths.{length-part, numbersAt-written}
-use Rattle.frames.proofs.Images.{length-tasks, record-at, queue-at, length-imageOf, reads-back}
+use Rattle.frames.proofs.Images.{length-tasks, queue-read, getD-zeros, record-at, queue-at, length-imageOf, reads-back}
 
 -- ---- the test and the conditions
 
@@ -63,15 +61,8 @@ accepts-image image =
 
 -- ---- the state that an accepted image stands for
 
--- a band's queue is read from its 65 bytes
-queue-read : (image : List ℕ) (band : QoSClass) → queue (stateAt image) band ≡ queueIn (queueAt band image)
-unfolding stateAt
-queue-read image UserInteractive = refl
-queue-read image RealTimeIO = refl
-queue-read image Background = refl
-
 -- the length byte bounds it
-length-queueIn : (bytes : List ℕ) → length (queueIn bytes) ≤ lengthByte bytes
+pub length-queueIn : (bytes : List ℕ) → length (queueIn bytes) ≤ lengthByte bytes
 length-queueIn bytes = rw (length-take (lengthByte bytes) (drop 1 bytes)) (omega arith)
 
 -- the slot bytes stand behind the length byte
@@ -80,7 +71,7 @@ getD-tail [] place = refl
 getD-tail (b ∷ bytes) place = refl
 
 -- an entry that is read is its slot byte
-entry-read : (bytes : List ℕ) (place : ℕ) → place < lengthByte bytes → getD (queueIn bytes) place 0 ≡ slotByte place bytes
+pub entry-read : (bytes : List ℕ) (place : ℕ) → place < lengthByte bytes → getD (queueIn bytes) place 0 ≡ slotByte place bytes
 entry-read bytes place h = getD-take (lengthByte bytes) (drop 1 bytes) place 0 h ∙ getD-tail bytes place
 
 -- the state that an accepted image stands for is accepted
@@ -107,16 +98,11 @@ accepted-state image a = record {
 bytes-by-place : (l : List ℕ) (d : ℕ) → ((i : ℕ) → i < length l → getD l i d < 256) → AllBytes l
 bytes-by-place l d h = let byte : (b : ℕ) → Says (ltb b 256) (b < 256) = λ _. less in all-of byte l .0 (each byte d l .1 h)
 
--- the bytes of records, of zeros, of a queue
+-- the bytes of records, and of a queue
 records-bytes : (tasks : List TaskControlBlock) → AllBytes (recordsBytes tasks)
 unfolding recordsBytes recordBytes Each
 records-bytes [] = tt
 records-bytes (t ∷ tasks) = bytes-append (recordBytes t) (recordsBytes tasks) (written-bytes recordWidths (recordNumbers t)) (records-bytes tasks)
-
-getD-zeros : (n place : ℕ) → _≡_ {A = ℕ} (getD (replicate n 0) place 0) 0
-getD-zeros zero place = refl
-getD-zeros (suc n) zero = refl
-getD-zeros (suc n) (suc place) = getD-zeros n place
 
 queue-bytes : (es : List ℕ) → length es ≤ 64 → ((place : ℕ) → place < length es → getD es place 0 < 64) → AllBytes (queueBytes es)
 unfolding queueBytes places Each
@@ -219,7 +205,3 @@ module _ (s : State) (a : Accepted s) (fits : FitsImage s) where
         budgets = again .budgets;
         consumed = again .consumed;
       }
-
--- what a valid scheduler holds is written as an accepted image
-pub written-accepted : (s : QoSScheduler) → Valid s → FitsImage (abs s) → AcceptedImage (imageOf (abs s))
-written-accepted s v = image-accepted (abs s) (v .accepted)

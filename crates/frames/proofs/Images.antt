@@ -7,7 +7,7 @@ use mathlib.Core.List.{List, [], _∷_, _++_, map, flatten, append-assoc, append
 use Prim.Native.Nat.{ℕ, zero, suc, _+_, _-_, _*_, _≤_, _<_, _^_}
 use native.Mathlib.Omega.{arith}
 use lib.Dec.{eqb}
-use lib.ListN.{length, getD, take, drop, replicate, length-append, length-drop, length-replicate, take-append-drop}
+use lib.ListN.{length, getD, take, drop, replicate, length-append, length-drop, length-replicate, take-append-drop, List·getD-eq-default}
 use lib.Seq.{take-all, take-at, drop-at, take-add, take-append-seam, drop-drop, length-take-le, getD-drop}
 use Rattle.records.specs.declared.band.QoSClass.{QoSClass}
 use Rattle.records.specs.declared.band.QoSClass.the-variants.{UserInteractive, RealTimeIO, Background}
@@ -16,6 +16,7 @@ use Rattle.records.specs.declared.state.ThreadState.the-variants.{Ready, Runnin
 use Rattle.records.specs.declared.task.TaskControlBlock.{TaskControlBlock}
 use Rattle.records.specs.Band.{bandCode}
 use Rattle.records.specs.State.{stateCode}
+use Rattle.records.specs.Task.{emptyRecord}
 use Rattle.records.proofs.Bands.{bandCode-small}
 use Rattle.queue.specs.Rules.{places}
 use Rattle.scheduler.specs.Accepted.{Each, Accepted}
@@ -160,9 +161,20 @@ pub length-tasks : (image : List ℕ) → length (stateAt image .tasks) ≡ 64
 unfolding stateAt
 length-tasks image = length-recordsIn 64 image
 
+-- a number of 64 and above is no slot
+pub task-past : (image : List ℕ) (slot : ℕ) → 64 ≤ slot → task (stateAt image) slot ≡ emptyRecord
+task-past image slot h = List·getD-eq-default (stateAt image .tasks) emptyRecord (omega (arith, length-tasks image))
+
+-- a slot's record is read from its 47 bytes, a band's queue from its 65
 pub task-read : (image : List ℕ) (slot : ℕ) → slot < 64 → task (stateAt image) slot ≡ recordIn (recordAt slot image)
 unfolding stateAt
 task-read image slot l = getD-recordsIn 64 image slot _ l
+
+pub queue-read : (image : List ℕ) (band : QoSClass) → queue (stateAt image) band ≡ queueIn (queueAt band image)
+unfolding stateAt
+queue-read image UserInteractive = refl
+queue-read image RealTimeIO = refl
+queue-read image Background = refl
 
 -- ---- a queue
 
@@ -175,6 +187,12 @@ length-queueBytes es small = omega (arith, length-append es (replicate (64 - len
 pub queueIn-queueBytes : (es : List ℕ) → queueIn (queueBytes es) ≡ es
 unfolding queueBytes places
 queueIn-queueBytes es = take-append-seam es (replicate (64 - length es) 0)
+
+-- zeros, and nothing, read as 0
+pub getD-zeros : (n place : ℕ) → _≡_ {A = ℕ} (getD (replicate n 0) place 0) 0
+getD-zeros zero place = refl
+getD-zeros (suc n) zero = refl
+getD-zeros (suc n) (suc place) = getD-zeros n place
 
 -- so many zeros
 zeros : (l : List ℕ) → ((place : ℕ) → place < length l → getD l place 0 ≡ 0) → replicate (length l) 0 ≡ l
@@ -265,15 +283,15 @@ module _ (s : State) (a : Accepted s) where
   length-imageOf = length-image s (a .slots) (a .lengths) (a .cores)
 
   -- each queue is read back
-  queue-read : (band : QoSClass) → queueIn (queueAt band (imageOf s)) ≡ queue s band
-  queue-read band = ap queueIn (queue-at s (a .slots) (a .lengths) band) ∙ queueIn-queueBytes (queue s band)
+  queue-back : (band : QoSClass) → queueIn (queueAt band (imageOf s)) ≡ queue s band
+  queue-back band = ap queueIn (queue-at s (a .slots) (a .lengths) band) ∙ queueIn-queueBytes (queue s band)
 
   -- "writing then reading the image gives the same state"
   pub reads-back : FitsImage s → stateAt (imageOf s) ≡ s
   unfolding stateAt
   reads-back fits = λ i. record {
     tasks = records-at s (a .slots) (fits .records) i;
-    queues = record { interactive = queue-read UserInteractive i; realTime = queue-read RealTimeIO i; background = queue-read Background i };
+    queues = record { interactive = queue-back UserInteractive i; realTime = queue-back RealTimeIO i; background = queue-back Background i };
     holders = holders-at s (a .slots) (a .lengths) (a .cores) i;
     micros = micros-read s (a .slots) (a .lengths) (a .cores) (fits .micros) i;
   }

@@ -32,3 +32,7 @@ mod Onward
 mod Progress
 mod Writings
 mod Typed
+mod Passing
+mod RecordBytes
+mod Counting
+mod Accepting

@@ -1,4 +1,4 @@
-// Frames of document 01: calls and answers as bytes, and as lines of text.
+// Frames of document 01: calls and answers as bytes, and as lines of text; and the image of a scheduler's state.
 //
 //   bytes    big-endian numbers in a slice
 //   hex      lower-case hexadecimal, two digits a byte
@@ -6,25 +6,34 @@
 //   encode   an answer's bytes, written into a lent buffer
 //   lines    the next line of a text, its call, and the answers to a whole text
 //   blocks   what has to be kept of a text that is read in blocks
+//   layout   where each part of a record and of an image stands
+//   fields   what a record's bytes say, and what is asked of them
+//   image    a scheduler's image, written into a lent buffer
+//   accept   whether bytes are an image that is accepted
 //
 // Nothing is presumed of any bytes: what is no frame is refused with 9. Each function promises its whole result and the
 // whole contents of the buffers that it is lent, as equal to definitions on lists of bytes in specs/; proofs/ has the
 // laws of those definitions.
+mod accept;
 mod blocks;
 mod bytes;
 mod decode;
 mod encode;
+mod fields;
 mod hex;
 mod image;
 mod layout;
 mod lines;
 
+pub use accept::accepts_image;
 pub use blocks::kept_from;
 pub use blocks::move_to_front;
 pub use decode::CallOption;
 pub use decode::read_frame;
 pub use encode::ANSWER_MAX;
 pub use encode::write_answer;
+pub use image::write_image;
+pub use layout::IMAGE_BYTES;
 pub use lines::ANSWER_LINE_MAX;
 pub use lines::Answered;
 pub use lines::Told;

@@ -1,5 +1,4 @@
 -- `put_queue` meets its contract: the length, then the places behind it. Assumes nothing.
-use native.Mathlib.Omega.{arith}
 use borrow.Author.Needs.{needs}
 use Rattle.frames.proofs.Writings.{queue-put}
 use Rattle.frames.proofs.image.put_queue.Statement.{statement}

@@ -1,0 +1,196 @@
+-- How the functions of src/accept.rt meet their contracts: what the code reads in an image's bytes is what the image's state has, and a law for each
+-- way out: of slots, cores and queues, and of the whole image. Assumes nothing.
+use mathlib.Core.Path.{_≡_, sym, ap, _∙_}
+use mathlib.Core.Bool.{Bool, true, false, not, _&&_, _||_, and-false, and-true}
+use mathlib.Core.Logic.{Iff·rfl}
+use mathlib.Core.List.{List}
+use Prim.Native.Nat.{ℕ, suc, _+_, _≤_, _<_}
+use native.Mathlib.Nat.{add-zero}
+use native.Mathlib.Omega.{arith}
+use borrow.Author.Tests.{not-true, not-false, lt-ltb, le-ltb, le-leb, lt-leb, eq-eqb, ne-eqb}
+use lib.Dec.{ltb, eqb}
+use lib.ListN.{length, getD, drop, length-take, length-drop}
+use lib.Seq.{getD-take, getD-drop}
+use Rattle.records.specs.declared.band.QoSClass.{QoSClass}
+use Rattle.records.specs.declared.band.QoSClass.the-variants.{UserInteractive, RealTimeIO, Background}
+use Rattle.records.specs.declared.state.ThreadState.the-variants.{Ready}
+use Rattle.records.specs.declared.task.TaskControlBlock.{TaskControlBlock}
+use Rattle.records.specs.Band.{IsBandCode}
+use Rattle.records.specs.State.{isState}
+use Rattle.records.proofs.Bands.{bandCode-small}
+use Rattle.scheduler.specs.Accepted.{every, everyBelow, recordFits, readyOf, standsOnce, mayHold, holderFits}
+use Rattle.scheduler.specs.State.{noneByte, bandOrder, task, queue, holder}
+use Rattle.scheduler.proofs.Says.{Says, less, at-most, both, each, bands}
+use Rattle.frames.specs.Bytes.{part}
+use Rattle.frames.specs.Image.{imageLength, queuePlace, holdersPlace, recordIn, recordAt, queueAt, lengthByte, slotByte, stateAt}
+use Rattle.frames.specs.AcceptedImage.{codesFit, slotFits, placeFits, bandFits, coreFits, acceptsImage, LengthsFit}
+use Rattle.scheduler.proofs.Stored.{read-any}
+use Rattle.frames.proofs.Images.{task-read, task-past, queue-read}
+use Rattle.frames.proofs.AcceptedImages.{entry-read}
+use Rattle.frames.proofs.Passing.{fails, holds}
+
+-- ---- the state of an image
+
+-- an element of a part
+getD-part : (at n : ℕ) (l : List ℕ) (i d : ℕ) → i < n → getD (part at n l) i d ≡ getD l (at + i) d
+getD-part at n l i d h = getD-take n (drop at l) i d h ∙ getD-drop at l i d
+
+module _ (image : List ℕ) where
+  -- the record that was read for a slot
+  record-read : (slot : ℕ) {bytes : List ℕ} → slot < 64 → bytes ≡ recordAt slot image → recordIn bytes ≡ task (stateAt image) slot
+  record-read slot h e = ap recordIn e ∙ sym (task-read image slot h)
+
+  -- a queue's length byte and its places
+  pub length-read : (band : QoSClass) {at : ℕ} → at ≡ queuePlace band → getD image at 0 ≡ lengthByte (queueAt band image)
+  length-read band e =
+      ap (λ (n : ℕ). getD image n 0) (e ∙ sym (add-zero (queuePlace band))) ∙ sym (getD-part (queuePlace band) 65 image 0 0 (omega arith))
+
+  pub slot-read : (band : QoSClass) (place : ℕ) {at : ℕ} → place < 64 → at ≡ queuePlace band →
+      getD image (at + 1 + place) 0 ≡ slotByte place (queueAt band image)
+  slot-read band place {at} h e =
+      let there : at + 1 + place ≡ queuePlace band + suc place = omega (arith, e) in
+      ap (λ (n : ℕ). getD image n 0) there ∙ sym (getD-part (queuePlace band) 65 image (suc place) 0 (omega arith))
+
+  -- a core's holder
+  holder-read : (core : ℕ) → length image ≡ imageLength → core < 64 → getD image (holdersPlace + core) 0 ≡ holder (stateAt image) core
+  unfolding stateAt
+  holder-read core whole h =
+      read-any image (holdersPlace + core) 0 noneByte (omega (arith, whole)) ∙ sym (getD-part holdersPlace 64 image core noneByte h)
+
+-- ---- a slot
+
+module _ (image : List ℕ) (slot : ℕ) {bytes : List ℕ} (h : slot < 64) (at : bytes ≡ recordAt slot image) where
+  pub slot-fits : {r : Bool} → r ≡ codesFit bytes && recordFits (recordIn bytes) → r ≡ slotFits image slot
+  unfolding slotFits
+  slot-fits e = e ∙ rw (at, task-read image slot h)
+
+  module _ {r : Bool} (is : r ≡ isState (recordIn bytes .state) Ready) where
+    ready : isState (task (stateAt image) slot .state) Ready ≡ r
+    ready = sym (is ∙ ap (λ (t : TaskControlBlock). isState (t .state) Ready) (record-read image slot h at))
+
+    pub stands-not : (n : ℕ) → not r ≡ true → true ≡ not (isState (task (stateAt image) slot .state) Ready) || eqb n 1
+    stands-not n e = sym (rw (ready ∙ not-true r e))
+
+    pub stands-ready : (n : ℕ) → not r ≡ false → eqb n 1 ≡ not (isState (task (stateAt image) slot .state) Ready) || eqb n 1
+    stands-ready n e = rw (ready ∙ not-false r e)
+
+    pub waiting-not : (band : QoSClass) → not r ≡ true → false ≡ readyOf band (task (stateAt image) slot)
+    waiting-not band e = sym (rw (ready ∙ not-true r e))
+
+    pub waiting-of : {band q : QoSClass} {a b : ℕ} → not r ≡ false → q ≡ recordIn bytes .qos → IsBandCode q a → IsBandCode band b →
+        eqb a b ≡ readyOf band (task (stateAt image) slot)
+    waiting-of e same a b = rw (ready ∙ not-false r e, a .is, b .is, same, record-read image slot h at)
+
+pub waiting-past : (image : List ℕ) (band : QoSClass) (slot : ℕ) → 64 ≤ slot → false ≡ readyOf band (task (stateAt image) slot)
+waiting-past image band slot h = sym (rw (task-past image slot h))
+
+-- ---- a core
+
+module _ (image : List ℕ) (core : ℕ) (whole : length image ≡ imageLength) (h : core < 64) where
+  abbrev byte : ℕ
+  byte = getD image (holdersPlace + core) 0
+
+  core-is : coreFits image core ≡ holderFits (stateAt image) byte
+  unfolding coreFits
+  core-is = ap (holderFits (stateAt image)) (sym (holder-read image core whole h))
+
+  pub core-none : byte ≡ noneByte → true ≡ coreFits image core
+  core-none e = sym (core-is ∙ rw (eq-eqb byte noneByte e))
+
+  pub core-past : (byte ≡ noneByte → ⊥) → 64 ≤ byte → false ≡ coreFits image core
+  core-past ne past = sym (core-is ∙ rw (ne-eqb byte noneByte ne, task-past image byte past))
+
+  pub core-slot : {bytes : List ℕ} {r : Bool} → (byte ≡ noneByte → ⊥) → byte < 64 → bytes ≡ recordAt byte image → r ≡ mayHold (recordIn bytes) →
+      r ≡ coreFits image core
+  core-slot ne low at e = e ∙ sym (core-is ∙ rw (ne-eqb byte noneByte ne, ← record-read image byte low at))
+
+-- ---- a queue
+
+module _ (image : List ℕ) (band : QoSClass) {len : ℕ} (size : len ≡ lengthByte (queueAt band image)) where
+  pub place-entry : (place : ℕ) {slot : ℕ} {r : Bool} → slot ≡ slotByte place (queueAt band image) → place < len →
+      r ≡ readyOf band (task (stateAt image) slot) → r ≡ placeFits image band place
+  unfolding placeFits
+  place-entry place is h e = e ∙ rw (lt-ltb place (lengthByte (queueAt band image)) (omega (arith, h, size)), is)
+
+  pub place-unused : (place : ℕ) {slot : ℕ} → slot ≡ slotByte place (queueAt band image) → len ≤ place → eqb slot 0 ≡ placeFits image band place
+  unfolding placeFits
+  place-unused place is h = rw (le-ltb place (lengthByte (queueAt band image)) (omega (arith, h, size)), is)
+
+  pub band-long : 64 < len → false ≡ bandFits image band
+  unfolding bandFits
+  band-long h = sym (rw (lt-leb (lengthByte (queueAt band image)) 64 (omega (arith, h, size))))
+
+  pub band-places : {r : Bool} → len ≤ 64 → r ≡ everyBelow 64 (placeFits image band) → r ≡ bandFits image band
+  unfolding bandFits
+  band-places h e = e ∙ sym (rw (le-leb (lengthByte (queueAt band image)) 64 (omega (arith, h, size))))
+
+  -- its entries
+  pub queue-long : length image ≡ imageLength → len ≤ 64 → length (queue (stateAt image) band) ≡ len
+  queue-long whole h =
+      let q : List ℕ = queueAt band image in
+      let long : length q ≡ 65 = omega (arith, length-take 65 (drop (queuePlace band) image), length-drop (queuePlace band) image, bandCode-small band) in
+      rw (queue-read image band) (omega (arith, size, length-take (lengthByte q) (drop 1 q), length-drop 1 q))
+
+  pub queue-entry : (place : ℕ) {slot : ℕ} → place < len → slot ≡ slotByte place (queueAt band image) → getD (queue (stateAt image) band) place 0 ≡ slot
+  queue-entry place h e = rw (queue-read image band, e) (entry-read (queueAt band image) place (omega (arith, h, size)))
+
+-- ---- the whole image
+
+module _ (image : List ℕ) where
+  abbrev queues : Bool
+  queues = every (bandFits image) bandOrder
+
+  pub bands-first : {a : Bool} → a ≡ bandFits image UserInteractive → not a ≡ true → false ≡ queues
+  unfolding every
+  bands-first e h = sym (rw (fails e h))
+
+  pub bands-second : {b : Bool} → b ≡ bandFits image RealTimeIO → not b ≡ true → false ≡ queues
+  unfolding every
+  bands-second e h = sym (rw (fails e h, and-false))
+
+  pub bands-third : {a b c : Bool} → a ≡ bandFits image UserInteractive → not a ≡ false → b ≡ bandFits image RealTimeIO → not b ≡ false →
+      c ≡ bandFits image Background → c ≡ queues
+  unfolding every
+  bands-third a ha b hb c = rw (holds a ha, holds b hb, and-true, c)
+
+  band-says : (band : QoSClass) → Says (bandFits image band) ((lengthByte (queueAt band image) ≤ 64) × (everyBelow 64 (placeFits image band) ≡ true))
+  unfolding bandFits
+  band-says band = both at-most Iff·rfl
+
+  pub lengths-fit : {r : Bool} → r ≡ queues → not r ≡ false → LengthsFit image
+  lengths-fit e h band = bands band-says .0 (holds e h) band .0
+
+  pub accepts-length : (length image ≡ imageLength → ⊥) → false ≡ acceptsImage image
+  unfolding acceptsImage
+  accepts-length ne = sym (rw (ne-eqb (length image) imageLength ne))
+
+  -- of 3,275 bytes the rest decides
+  module _ (whole : length image ≡ imageLength) (small : (i : ℕ) → getD image i 0 < 256) where
+    abbrev slots : Bool
+    slots = everyBelow 64 (slotFits image)
+
+    abbrev once : Bool
+    once = everyBelow 64 (standsOnce (stateAt image))
+
+    abbrev cores : Bool
+    cores = everyBelow 64 (coreFits image)
+
+    bytes-are : every (λ b. ltb b 256) image ≡ true
+    bytes-are = each (λ b. less {a = b} {b = 256}) 0 image .1 (λ i _. small i)
+
+    accepts-is : acceptsImage image ≡ slots && queues && once && cores
+    unfolding acceptsImage
+    accepts-is = rw (eq-eqb (length image) imageLength whole, bytes-are)
+
+    pub accepts-slots : {r : Bool} → r ≡ slots → not r ≡ true → false ≡ acceptsImage image
+    accepts-slots e h = sym (accepts-is ∙ rw (fails e h))
+
+    pub accepts-queues : {r : Bool} → r ≡ queues → not r ≡ true → false ≡ acceptsImage image
+    accepts-queues e h = sym (accepts-is ∙ rw (fails e h, and-false))
+
+    pub accepts-once : {r : Bool} → r ≡ once → not r ≡ true → false ≡ acceptsImage image
+    accepts-once e h = sym (accepts-is ∙ rw (fails e h, and-false))
+
+    pub accepts-rest : {a b c r : Bool} → a ≡ slots → not a ≡ false → b ≡ queues → not b ≡ false → c ≡ once → not c ≡ false → r ≡ cores →
+        r ≡ acceptsImage image
+    accepts-rest a ha b hb c hc r = r ∙ sym (accepts-is ∙ rw (holds a ha, holds b hb, holds c hc))

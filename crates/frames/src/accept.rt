@@ -1,0 +1,254 @@
+// Acceptance: whether bytes are an image that document 01 accepts, in time linear in their number.
+ghost use mathlib.Core.Path.{_≡_};
+ghost use mathlib.Core.Bool.{not, _||_};
+ghost use Prim.Native.Nat.{_+_, _≤_, _<_};
+ghost use lib.Dec.{eqb};
+ghost use lib.ListN.{length};
+ghost use Rattle.records.specs.declared.state.ThreadState.the-variants.{Ready};
+ghost use Rattle.records.specs.Band.{slice};
+ghost use Rattle.records.specs.State.{isState};
+ghost use Rattle.scheduler.specs.Accepted.{every, everyBelow, readyOf, standsOnce};
+ghost use Rattle.scheduler.specs.State.{bandOrder, task, queue};
+ghost use Rattle.frames.specs.Image.{queueLength, queuePlace, holdersPlace, imageLength, recordAt, queueAt, lengthByte, slotByte, stateAt};
+ghost use Rattle.frames.specs.AcceptedImage.{acceptsImage, slotFits, placeFits, bandFits, coreFits, LengthsFit, AtMost, Counted};
+use crate::fields::band_in;
+use crate::fields::is_ready;
+use crate::fields::may_hold;
+use crate::fields::record_fits;
+use crate::layout::HOLDERS_AT;
+use crate::layout::IMAGE_BYTES;
+use crate::layout::QUEUE_BYTES;
+use crate::layout::QUEUES_AT;
+use crate::layout::RECORD_BYTES;
+use records::MAX_CPUS;
+use records::MAX_TASKS;
+use records::QoSClass;
+
+// What stands for none in a core's holder.
+const NO_HOLDER: u8 = 255;
+
+// Whether the bytes are an image that is accepted: of any bytes, of any number.
+pub fn accepts_image(image: &[u8]) -> bool
+    ensures { λ r. ⌜ r ≡ acceptsImage (now (image .entry)) ⌝ }
+{
+    if image.len() != IMAGE_BYTES {
+        return false;
+    }
+    if !slots_fit(image) {
+        return false;
+    }
+    if !bands_fit(image) {
+        return false;
+    }
+    if !ready_stand_once(image) {
+        return false;
+    }
+    cores_fit(image)
+}
+
+// ---- the records
+
+// Whether every slot's record fits.
+fn slots_fit(image: &[u8]) -> bool
+    requires { ⌜ length (now image) ≡ imageLength ⌝ }
+    ensures { λ r. ⌜ r ≡ everyBelow 64 (slotFits (now (image .entry))) ⌝ }
+{
+    let mut slot = 0;
+    while slot < MAX_TASKS {
+        if !slot_fits(image, slot) {
+            return false;
+        }
+        slot += 1;
+    }
+    true
+}
+
+// Whether a slot's record fits.
+fn slot_fits(image: &[u8], slot: usize) -> bool
+    requires { ⌜ length (now image) ≡ imageLength ⌝ }
+    requires { ⌜ slot < 64 ⌝ }
+    ensures { λ r. ⌜ r ≡ slotFits (now (image .entry)) slot ⌝ }
+{
+    record_fits(record_at(image, slot))
+}
+
+// A slot's record, as that part of the image.
+fn record_at(image: &[u8], slot: usize) -> &[u8]
+    requires { ⌜ length (now image) ≡ imageLength ⌝ }
+    requires { ⌜ slot < 64 ⌝ }
+    ensures { λ r. ⌜ now r ≡ recordAt slot (now (image .entry)) ⌝ }
+{
+    let at = RECORD_BYTES * slot;
+    &image[at..at + RECORD_BYTES]
+}
+
+// ---- the queues
+
+// Whether every band's queue fits.
+fn bands_fit(image: &[u8]) -> bool
+    requires { ⌜ length (now image) ≡ imageLength ⌝ }
+    ensures { λ r. ⌜ r ≡ every (bandFits (now (image .entry))) bandOrder ⌝ }
+{
+    if !band_fits(image, QoSClass::UserInteractive) {
+        return false;
+    }
+    if !band_fits(image, QoSClass::RealTimeIO) {
+        return false;
+    }
+    band_fits(image, QoSClass::Background)
+}
+
+// Whether a queue has at most 64 entries, and each of its 64 places fits.
+fn band_fits(image: &[u8], band: QoSClass) -> bool
+    requires { ⌜ length (now image) ≡ imageLength ⌝ }
+    ensures { λ r. ⌜ r ≡ bandFits (now (image .entry)) band ⌝ }
+{
+    if length_byte(image, band) > MAX_TASKS {
+        return false;
+    }
+    let mut place = 0;
+    while place < MAX_TASKS {
+        if !place_fits(image, band, place) {
+            return false;
+        }
+        place += 1;
+    }
+    true
+}
+
+// How many entries a band's queue has, by the image.
+fn length_byte(image: &[u8], band: QoSClass) -> usize
+    requires { ⌜ length (now image) ≡ imageLength ⌝ }
+    ensures { λ r. ⌜ r ≡ lengthByte (queueAt band (now (image .entry))) ⌝ }
+{
+    image[queue_at(band)] as usize
+}
+
+// What stands at one of the 64 places of a band's queue.
+fn slot_byte(image: &[u8], band: QoSClass, place: usize) -> usize
+    requires { ⌜ length (now image) ≡ imageLength ⌝ }
+    requires { ⌜ place < 64 ⌝ }
+    ensures { λ r. ⌜ r ≡ slotByte place (queueAt band (now (image .entry))) ⌝ }
+{
+    image[queue_at(band) + 1 + place] as usize
+}
+
+// Where a band's queue begins; all its bytes stand before the holders.
+fn queue_at(band: QoSClass) -> usize
+    ensures { λ r. ⌜ (r ≡ queuePlace band) × (r + queueLength ≤ holdersPlace) ⌝ }
+{
+    QUEUES_AT + QUEUE_BYTES * band.code() as usize
+}
+
+// Whether a place of a queue holds an entry, or is unused and 0.
+fn place_fits(image: &[u8], band: QoSClass, place: usize) -> bool
+    requires { ⌜ length (now image) ≡ imageLength ⌝ }
+    requires { ⌜ place < 64 ⌝ }
+    ensures { λ r. ⌜ r ≡ placeFits (now (image .entry)) band place ⌝ }
+{
+    let slot = slot_byte(image, band, place);
+    if place < length_byte(image, band) {
+        return is_waiting(image, band, slot);
+    }
+    slot == 0
+}
+
+// Whether a number is a Ready slot of the band.
+fn is_waiting(image: &[u8], band: QoSClass, slot: usize) -> bool
+    requires { ⌜ length (now image) ≡ imageLength ⌝ }
+    ensures { λ r. ⌜ r ≡ readyOf band (task (stateAt (now (image .entry))) slot) ⌝ }
+{
+    if slot >= MAX_TASKS {
+        return false;
+    }
+    let record = record_at(image, slot);
+    if !is_ready(record) {
+        return false;
+    }
+    band_in(record).code() == band.code()
+}
+
+// Whether every Ready slot stands in the queues once: each slot's entries are counted in one pass over the queues.
+fn ready_stand_once(image: &[u8]) -> bool
+    requires { ⌜ length (now image) ≡ imageLength ⌝ }
+    requires { ⌜ LengthsFit (now image) ⌝ }
+    ensures { λ r. ⌜ r ≡ everyBelow 64 (standsOnce (stateAt (now (image .entry)))) ⌝ }
+{
+    let none = [0u8; MAX_TASKS];
+    let first = counted(image, QoSClass::UserInteractive, none);
+    let second = counted(image, QoSClass::RealTimeIO, first);
+    let counts = counted(image, QoSClass::Background, second);
+    let mut slot = 0;
+    while slot < MAX_TASKS {
+        if !stands_once(image, slot, counts[slot]) {
+            return false;
+        }
+        slot += 1;
+    }
+    true
+}
+
+// The counts, and one more for each entry of the band's queue.
+fn counted(image: &[u8], band: QoSClass, mut counts: [u8; MAX_TASKS]) -> [u8; MAX_TASKS]
+    requires { ⌜ length (now image) ≡ imageLength ⌝ }
+    requires { ⌜ lengthByte (queueAt band (now image)) ≤ 64 ⌝ }
+    requires { ⌜ AtMost 128 counts ⌝ }
+    ensures { λ r. ⌜ Counted (queue (stateAt (now (image .entry))) band) counts r ⌝ }
+{
+    let len = length_byte(image, band);
+    let mut place = 0;
+    while place < len {
+        let slot = slot_byte(image, band, place);
+        place += 1;
+        if slot < MAX_TASKS {
+            counts[slot] += 1;
+        }
+    }
+    counts
+}
+
+// Whether a slot that stands in the queues so often is not Ready or stands there once.
+fn stands_once(image: &[u8], slot: usize, count: u8) -> bool
+    requires { ⌜ length (now image) ≡ imageLength ⌝ }
+    requires { ⌜ slot < 64 ⌝ }
+    ensures { λ r. ⌜ r ≡ (not (isState (task (stateAt (now (image .entry))) slot .state) Ready) || eqb count 1) ⌝ }
+{
+    if !is_ready(record_at(image, slot)) {
+        return true;
+    }
+    count == 1
+}
+
+// ---- the holders
+
+// Whether every core's holder fits.
+fn cores_fit(image: &[u8]) -> bool
+    requires { ⌜ length (now image) ≡ imageLength ⌝ }
+    ensures { λ r. ⌜ r ≡ everyBelow 64 (coreFits (now (image .entry))) ⌝ }
+{
+    let mut core = 0;
+    while core < MAX_CPUS {
+        if !core_fits(image, core) {
+            return false;
+        }
+        core += 1;
+    }
+    true
+}
+
+// Whether a core's holder is none, or a slot in use whose budget is its slice.
+fn core_fits(image: &[u8], core: usize) -> bool
+    requires { ⌜ length (now image) ≡ imageLength ⌝ }
+    requires { ⌜ core < 64 ⌝ }
+    ensures { λ r. ⌜ r ≡ coreFits (now (image .entry)) core ⌝ }
+{
+    let holder = image[HOLDERS_AT + core];
+    if holder == NO_HOLDER {
+        return true;
+    }
+    let slot = holder as usize;
+    if slot >= MAX_TASKS {
+        return false;
+    }
+    may_hold(record_at(image, slot))
+}

@@ -1,0 +1,116 @@
+// A record's 47 bytes: what its fields say, and what acceptance asks of a record alone. A byte that is no code reads as the
+// empty record's.
+ghost use mathlib.Core.Path.{_≡_};
+ghost use mathlib.Core.Bool.{not, _&&_, _||_};
+ghost use Prim.Native.Nat.{_<_};
+ghost use lib.Dec.{eqb};
+ghost use Rattle.records.specs.declared.state.ThreadState.the-variants.{Ready, Terminated};
+ghost use Rattle.records.specs.Band.{slice};
+ghost use Rattle.records.specs.State.{isState};
+ghost use Rattle.scheduler.specs.Accepted.{recordFits, mayHold};
+ghost use Rattle.frames.specs.Image.{recordIn};
+ghost use Rattle.frames.specs.AcceptedImage.{codesFit};
+use crate::bytes::number;
+use crate::layout::BAND_AT;
+use crate::layout::BUDGET_AT;
+use crate::layout::CONSUMED_AT;
+use crate::layout::IN_USE_AT;
+use crate::layout::MASK_AT;
+use crate::layout::STATE_AT;
+use records::QoSClass;
+use records::band_slice_us;
+
+// The codes of Ready and Terminated.
+const READY: u64 = 0;
+
+const TERMINATED: u64 = 3;
+
+// What is asked of a record alone: its codes, in use exactly where it is not Terminated, a mask that is not 0, a budget
+// of 0 or the slice, and less consumed than the slice.
+pub(crate) fn record_fits(bytes: &[u8]) -> bool
+    ensures { λ r. ⌜ r ≡ (codesFit (now (bytes .entry)) && recordFits (recordIn (now (bytes .entry)))) ⌝ }
+{
+    if !codes_fit(bytes) {
+        return false;
+    }
+    if is_in_use(bytes) == is_terminated(bytes) {
+        return false;
+    }
+    if number(bytes, MASK_AT, 8) == 0 {
+        return false;
+    }
+    let slice = slice_in(bytes);
+    if !budget_fits(number(bytes, BUDGET_AT, 4), slice) {
+        return false;
+    }
+    number(bytes, CONSUMED_AT, 4) < slice
+}
+
+// Whether band, state and in use are codes.
+fn codes_fit(bytes: &[u8]) -> bool
+    ensures { λ r. ⌜ r ≡ codesFit (now (bytes .entry)) ⌝ }
+{
+    if number(bytes, BAND_AT, 1) > 2 {
+        return false;
+    }
+    if number(bytes, STATE_AT, 1) > TERMINATED {
+        return false;
+    }
+    number(bytes, IN_USE_AT, 1) < 2
+}
+
+// Any byte but 1 reads as not in use.
+fn is_in_use(bytes: &[u8]) -> bool
+    ensures { λ r. ⌜ r ≡ recordIn (now (bytes .entry)) .«in_use» ⌝ }
+{
+    number(bytes, IN_USE_AT, 1) == 1
+}
+
+// Only the code of Ready reads as Ready.
+pub(crate) fn is_ready(bytes: &[u8]) -> bool
+    ensures { λ r. ⌜ r ≡ isState (recordIn (now (bytes .entry)) .state) Ready ⌝ }
+{
+    number(bytes, STATE_AT, 1) == READY
+}
+
+// A byte that is no code reads as Terminated.
+fn is_terminated(bytes: &[u8]) -> bool
+    ensures { λ r. ⌜ r ≡ isState (recordIn (now (bytes .entry)) .state) Terminated ⌝ }
+{
+    TERMINATED <= number(bytes, STATE_AT, 1)
+}
+
+// A byte that is no code reads as Background.
+pub(crate) fn band_in(bytes: &[u8]) -> QoSClass
+    ensures { λ r. ⌜ r ≡ recordIn (now (bytes .entry)) .qos ⌝ }
+{
+    match number(bytes, BAND_AT, 1) {
+        0 => QoSClass::UserInteractive,
+        1 => QoSClass::RealTimeIO,
+        _ => QoSClass::Background,
+    }
+}
+
+// The slice of a record's band.
+fn slice_in(bytes: &[u8]) -> u64
+    ensures { λ r. ⌜ r ≡ slice (recordIn (now (bytes .entry)) .qos) ⌝ }
+{
+    band_slice_us(band_in(bytes)) as u64
+}
+
+// Whether a budget is 0 or the slice.
+fn budget_fits(budget: u64, slice: u64) -> bool
+    ensures { λ r. ⌜ r ≡ (eqb budget 0 || eqb budget slice) ⌝ }
+{
+    budget == 0 || budget == slice
+}
+
+// Whether a record is in use and its budget is its slice.
+pub(crate) fn may_hold(bytes: &[u8]) -> bool
+    ensures { λ r. ⌜ r ≡ mayHold (recordIn (now (bytes .entry))) ⌝ }
+{
+    if !is_in_use(bytes) {
+        return false;
+    }
+    number(bytes, BUDGET_AT, 4) == slice_in(bytes)
+}
