@@ -41,16 +41,16 @@ fn main() {
         b"new is written",
         write_image(QoSScheduler::new(), &mut image),
     );
-    new_parts(&image);
+    new_parts(image);
     show_whether(b"busy is written", write_image(busy(), &mut image));
-    busy_parts(&image);
-    lengths(&image);
-    codes(&mut image);
-    queues(&mut image);
-    holders(&mut image);
-    times(&mut image);
-    others(&mut image);
-    show_whether(b"busy, as it was", accepts_image(&image));
+    busy_slots(image);
+    busy_rest(image);
+    lengths(image);
+    codes(image);
+    queues(image);
+    holders(image);
+    times(image);
+    others(image);
 }
 
 // Slot 0 runs on core 5 with 1,999 microseconds consumed, slots 3 and 4 wait in band 0 and slot 1 in band 1, slot 2 is
@@ -111,71 +111,66 @@ fn after(state: QoSScheduler, call: Call) -> QoSScheduler
     reply.state
 }
 
-fn new_parts(image: &[u8]) {
-    show_whether(b"new", accepts_image(image));
-    show_part(b"slot 0", image, 0, 47);
-    show_part(b"slot 63", image, SLOT_63, 47);
-    show_part(b"queue 0", image, QUEUE_0, 65);
-    show_part(b"queue 2", image, QUEUE_2, 65);
-    show_part(b"holders", image, HOLDERS, 64);
-    show_part(b"microseconds", image, MICROS, 8);
+fn new_parts(image: [u8; IMAGE_BYTES]) {
+    show_whether(b"new", accepts_image(&image));
+    show_part(b"slot 0", &image, 0, 47);
+    show_part(b"slot 63", &image, SLOT_63, 47);
+    show_part(b"queue 0", &image, QUEUE_0, 65);
+    show_part(b"queue 2", &image, QUEUE_2, 65);
+    show_part(b"holders", &image, HOLDERS, 64);
+    show_part(b"microseconds", &image, MICROS, 8);
 }
 
-fn busy_parts(image: &[u8]) {
-    show_whether(b"busy", accepts_image(image));
-    show_part(b"slot 0", image, 0, 47);
-    show_part(b"slot 1", image, 47, 47);
-    show_part(b"slot 2", image, SLOT_2, 47);
-    show_part(b"slot 3", image, SLOT_3, 47);
-    show_part(b"slot 4", image, 188, 47);
-    show_part(b"slot 5", image, SLOT_5, 47);
-    show_part(b"slot 6", image, 282, 47);
-    show_part(b"queue 0", image, QUEUE_0, 65);
-    show_part(b"queue 1", image, QUEUE_1, 65);
-    show_part(b"queue 2", image, QUEUE_2, 65);
-    show_part(b"holders", image, HOLDERS, 64);
-    show_part(b"microseconds", image, MICROS, 8);
+fn busy_slots(image: [u8; IMAGE_BYTES]) {
+    show_whether(b"busy", accepts_image(&image));
+    show_part(b"slot 0", &image, 0, 47);
+    show_part(b"slot 1", &image, 47, 47);
+    show_part(b"slot 2", &image, SLOT_2, 47);
+    show_part(b"slot 3", &image, SLOT_3, 47);
+    show_part(b"slot 4", &image, 188, 47);
+    show_part(b"slot 5", &image, SLOT_5, 47);
+}
+
+fn busy_rest(image: [u8; IMAGE_BYTES]) {
+    show_part(b"slot 6", &image, 282, 47);
+    show_part(b"queue 0", &image, QUEUE_0, 65);
+    show_part(b"queue 1", &image, QUEUE_1, 65);
+    show_part(b"queue 2", &image, QUEUE_2, 65);
+    show_part(b"holders", &image, HOLDERS, 64);
+    show_part(b"microseconds", &image, MICROS, 8);
 }
 
 // "The image (added) is 3,275 bytes"
-fn lengths(image: &[u8]) {
-    show_whether(b"no bytes", accepts_image(&image[..0]));
-    if IMAGE_BYTES <= image.len() {
-        show_whether(b"one byte short", accepts_image(&image[..IMAGE_BYTES - 1]));
-    }
-    let mut short = [170u8; IMAGE_BYTES - 1];
-    show_whether(
-        b"a short buffer is written",
-        write_image(QoSScheduler::new(), &mut short),
-    );
-    show_part(b"it begins", &short, 0, 4);
+fn lengths(image: [u8; IMAGE_BYTES]) {
+    front_accepted(b"no bytes", &image, 0);
+    front_accepted(b"3274 bytes", &image, IMAGE_BYTES - 1);
     let mut long = [170u8; IMAGE_BYTES + 1];
-    show_whether(
-        b"a long buffer is written",
-        write_image(QoSScheduler::new(), &mut long),
-    );
-    show_part(b"it begins", &long, 0, 4);
-    too_long(&mut long);
+    front_written(b"3274 bytes are written", &mut long, IMAGE_BYTES - 1);
+    front_written(b"3276 bytes are written", &mut long, IMAGE_BYTES + 1);
+    show_part(b"they begin", &long, 0, 8);
+    front_written(b"3275 bytes are written", &mut long, IMAGE_BYTES);
+    show_part(b"they begin", &long, 0, 8);
+    show_part(b"behind them", &long, IMAGE_BYTES, 1);
+    front_accepted(b"3275 bytes", &long, IMAGE_BYTES);
+    front_accepted(b"3276 bytes", &long, IMAGE_BYTES + 1);
 }
 
-// An image, and a byte behind it.
-fn too_long(bytes: &mut [u8]) {
-    if IMAGE_BYTES < bytes.len() {
-        show_whether(
-            b"its first 3275 bytes are written",
-            write_image(QoSScheduler::new(), &mut bytes[..IMAGE_BYTES]),
-        );
-        show_whether(
-            b"its first 3275 bytes",
-            accepts_image(&bytes[..IMAGE_BYTES]),
-        );
-        show_whether(b"one byte long", accepts_image(bytes));
-        show_part(b"it ends", bytes, IMAGE_BYTES, 1);
+// Whether the first `n` bytes are accepted.
+fn front_accepted(what: &[u8], bytes: &[u8], n: usize) {
+    if n <= bytes.len() {
+        show_whether(what, accepts_image(&bytes[..n]));
+    }
+}
+
+// Whether a new scheduler's image is written over the first `n` bytes.
+fn front_written(what: &[u8], bytes: &mut [u8], n: usize) {
+    if n <= bytes.len() {
+        show_whether(what, write_image(QoSScheduler::new(), &mut bytes[..n]));
     }
 }
 
 // "band, state and in-use codes are as above; in use is 0 exactly for Terminated; no mask is 0"
-fn codes(image: &mut [u8]) {
+fn codes(image: [u8; IMAGE_BYTES]) {
     changed(b"band 3, a free slot", image, SLOT_63 + 4, 3);
     changed(b"band 1, a free slot", image, SLOT_63 + 4, 1);
     changed(b"state 4, a free slot", image, SLOT_63 + 5, 4);
@@ -188,7 +183,7 @@ fn codes(image: &mut [u8]) {
 
 // "lengths are at most 64 and unused queue bytes 0; every queue entry is a Ready slot of that band; every Ready slot
 // stands in the queues once"
-fn queues(image: &mut [u8]) {
+fn queues(image: [u8; IMAGE_BYTES]) {
     changed(b"length 65", image, QUEUE_2, 65);
     changed(b"first unused byte 4", image, QUEUE_0 + 3, 4);
     changed(b"last unused byte 1", image, QUEUE_2 + 64, 1);
@@ -223,7 +218,7 @@ fn queues(image: &mut [u8]) {
 }
 
 // "every holder is 255 or a slot in use whose budget is its slice"
-fn holders(image: &mut [u8]) {
+fn holders(image: [u8; IMAGE_BYTES]) {
     changed(b"holder 64", image, HOLDERS, 64);
     changed(b"holder 254", image, HOLDERS + 63, 254);
     changed(b"a terminated holder", image, HOLDERS + 5, 5);
@@ -234,7 +229,7 @@ fn holders(image: &mut [u8]) {
 }
 
 // "every budget is 0 or its slice; every consumed is below its slice"
-fn times(image: &mut [u8]) {
+fn times(image: [u8; IMAGE_BYTES]) {
     both_changed(
         b"a budget of 5000 in band 0, not held",
         image,
@@ -289,7 +284,7 @@ fn times(image: &mut [u8]) {
 }
 
 // What no condition is about.
-fn others(image: &mut [u8]) {
+fn others(image: [u8; IMAGE_BYTES]) {
     changed(b"another tid", image, 0, 255);
     changed(b"another context", image, 6, 255);
     changed(b"another cr3", image, 14, 255);
@@ -297,22 +292,25 @@ fn others(image: &mut [u8]) {
     changed(b"other microseconds", image, MICROS, 255);
 }
 
-// Whether the image is accepted with this byte at this place; the byte that stood there is put back.
-fn changed(what: &[u8], image: &mut [u8], at: usize, byte: u8) {
-    if at < image.len() {
-        let was = image[at];
+// Whether the image is accepted with this byte at this place.
+fn changed(what: &[u8], mut image: [u8; IMAGE_BYTES], at: usize, byte: u8) {
+    if at < IMAGE_BYTES {
         image[at] = byte;
-        show_whether(what, accepts_image(image));
-        image[at] = was;
+        show_whether(what, accepts_image(&image));
     }
 }
 
-// The same with two bytes.
-fn both_changed(what: &[u8], image: &mut [u8], at: usize, byte: u8, then: usize, second: u8) {
-    if then < image.len() {
-        let was = image[then];
+// The same with a second byte.
+fn both_changed(
+    what: &[u8],
+    mut image: [u8; IMAGE_BYTES],
+    at: usize,
+    byte: u8,
+    then: usize,
+    second: u8,
+) {
+    if then < IMAGE_BYTES {
         image[then] = second;
         changed(what, image, at, byte);
-        image[then] = was;
     }
 }

@@ -24,10 +24,17 @@ pub(crate) fn show_part(name: &[u8], bytes: &[u8], at: usize, n: usize) {
 // The first `n` bytes.
 fn show_first(bytes: &[u8], n: usize) {
     let mut k = 0;
-    while k < n && k < bytes.len() {
-        io::print_hex(STDOUT_FILENO, bytes[k] as u64, 2);
+    while k < n {
+        if bytes.len() <= k {
+            return;
+        }
+        print_byte(bytes[k]);
         k += 1;
     }
+}
+
+fn print_byte(byte: u8) {
+    io::print_hex(STDOUT_FILENO, byte as u64, 2);
 }
 
 fn print(text: &[u8]) {
