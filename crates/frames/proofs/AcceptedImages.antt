@@ -1,7 +1,6 @@
 -- Accepted images: the test that computes passes exactly the bytes that meet document 01's list of conditions; the state that an accepted image
 -- stands for is accepted; and an accepted state whose numbers fit has an accepted image. Assumes nothing.
 use mathlib.Core.Path.{_≡_, refl, sym, ap, subst, _∙_}
-use mathlib.Core.Bool.{Bool, true, false}
 use mathlib.Core.List.{List, [], _∷_, _++_}
 use mathlib.Core.Logic.{⊎-elim, Iff·trans}
 use Prim.Native.Nat.{ℕ, zero, suc, _-_, _≤_, _<_}
@@ -17,7 +16,7 @@ use Rattle.records.proofs.Bands.{bandCode-small}
 use Rattle.records.proofs.States.{stateCode-small}
 use Rattle.queue.specs.Rules.{places}
 use Rattle.scheduler.specs.Accepted.{Accepted, Each}
-use Rattle.scheduler.specs.Paper.{flagNumber, recordNumbers}
+use Rattle.scheduler.specs.Paper.{recordNumbers}
 use Rattle.scheduler.specs.State.{State, noneByte, task, queue, holder}
 use Rattle.scheduler.proofs.Invariant.{ready-in-table, used-in-table}
 use Rattle.scheduler.proofs.Says.{Says, equal, less, at-most, same, same-state, both, either, never, implies, within, all-of, below, each, bands, ready-of, may-hold}
@@ -25,9 +24,10 @@ use Rattle.frames.specs.AcceptedImage.{AcceptedImage, slotFits, placeFit
 use Rattle.frames.specs.Answer.{recordWidths, recordBytes}
 use Rattle.frames.specs.Bytes.{AllBytes, bytesOf, numbersAt, Fit}
 use Rattle.frames.specs.Image.{holdersPlace, recordsBytes, queueBytes, queuesBytes, imageOf, recordAt, queueAt, lengthByte, slotByte, queueIn, stateAt, FitsImage}
-use Rattle.frames.proofs.Numbers.{bytes-append, bytesOf-bytes, written-bytes}
+use Rattle.frames.proofs.Elements.{each-append, each-at}
+use Rattle.frames.proofs.Numbers.{bytesOf-bytes, written-bytes}
 use Rattle.frames.proofs.Widths.{length-part, numbersAt-written}
-use Rattle.frames.proofs.Images.{length-tasks, queue-read, getD-zeros, record-at, queue-at, length-imageOf, reads-back}
+use Rattle.frames.proofs.Images.{flagNumber-small, length-tasks, queue-read, getD-zeros, record-at, queue-at, length-imageOf, reads-back}
 
 -- ---- the test and the conditions
 
@@ -102,7 +102,7 @@ bytes-by-place l d h = let byte : (b : ℕ) → Says (ltb b 256) (b < 256) = λ 
 records-bytes : (tasks : List TaskControlBlock) → AllBytes (recordsBytes tasks)
 unfolding recordsBytes recordBytes Each
 records-bytes [] = tt
-records-bytes (t ∷ tasks) = bytes-append (recordBytes t) (recordsBytes tasks) (written-bytes recordWidths (recordNumbers t)) (records-bytes tasks)
+records-bytes (t ∷ tasks) = each-append _ (recordBytes t) (recordsBytes tasks) (written-bytes recordWidths (recordNumbers t)) (records-bytes tasks)
 
 queue-bytes : (es : List ℕ) → length es ≤ 64 → ((place : ℕ) → place < length es → getD es place 0 < 64) → AllBytes (queueBytes es)
 unfolding queueBytes places Each
@@ -110,7 +110,7 @@ queue-bytes es few low =
     let zeros : List ℕ = replicate (64 - length es) 0 in
     let entries : AllBytes es = bytes-by-place es 0 (λ i h. omega (arith, low i h)) in
     let unused : AllBytes zeros = bytes-by-place zeros 0 (λ i _. omega (arith, getD-zeros (64 - length es) i)) in
-    (omega arith, bytes-append es zeros entries unused)
+    (omega arith, each-append _ es zeros entries unused)
 
 module _ (s : State) (a : Accepted s) where
   -- every entry is a slot, every holder a slot or 255
@@ -131,10 +131,10 @@ module _ (s : State) (a : Accepted s) where
   image-bytes : AllBytes (imageOf s)
   unfolding imageOf queuesBytes
   image-bytes =
-      bytes-append _ (bytesOf 8 (s .micros))
-      (bytes-append _ (s .holders)
-      (bytes-append (recordsBytes (s .tasks)) _ (records-bytes (s .tasks))
-      (bytes-append _ _ (bytes-append _ _ (band-bytes UserInteractive) (band-bytes RealTimeIO)) (band-bytes Background)))
+      each-append _ _ (bytesOf 8 (s .micros))
+      (each-append _ _ (s .holders)
+      (each-append _ (recordsBytes (s .tasks)) _ (records-bytes (s .tasks))
+      (each-append _ _ _ (each-append _ _ _ (band-bytes UserInteractive) (band-bytes RealTimeIO)) (band-bytes Background)))
       (bytes-by-place (s .holders) noneByte holder-small))
       (bytesOf-bytes 8 (s .micros))
 
@@ -153,18 +153,6 @@ slotByte-is place es = padded es place where
 lengthByte-is : (es : List ℕ) → lengthByte (queueBytes es) ≡ length es
 unfolding queueBytes
 lengthByte-is es = refl
-
--- a flag is 0 or 1
-flagNumber-small : (b : Bool) → flagNumber b < 2
-flagNumber-small true = omega arith
-flagNumber-small false = omega arith
-
--- what holds of each element holds at every place
-each-at : {A : Type 0} (P : A → Type 0) (l : List A) (i : ℕ) (d : A) → Each P l → i < length l → P (getD l i d)
-unfolding Each
-each-at P [] i d all h = absurd (omega arith)
-each-at P (a ∷ l) zero d all h = all .0
-each-at P (a ∷ l) (suc i) d all h = each-at P l i d (all .1) (omega arith)
 
 module _ (s : State) (a : Accepted s) (fits : FitsImage s) where
   -- a number of a slot's record, as it stands in the image

@@ -58,6 +58,10 @@ stateCode-of (suc (suc zero)) h = refl
 stateCode-of (suc (suc (suc zero))) h = refl
 stateCode-of (suc (suc (suc (suc code)))) h = absurd (omega (arith, h))
 
+pub flagNumber-small : (flag : Bool) → flagNumber flag < 2
+flagNumber-small true = omega arith
+flagNumber-small false = omega arith
+
 flag-number : (flag : Bool) → eqb (flagNumber flag) 1 ≡ flag
 flag-number true = refl
 flag-number false = refl

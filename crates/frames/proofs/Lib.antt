@@ -1,28 +1,41 @@
--- Laws about the definitions of specs/. What a reader of texts, and whoever comes above, may cite:
+-- Laws about the definitions of specs/. What a reader of texts or images, and whoever comes above, may cite:
 --
---   Stores      bytes stored one behind the other, and read back
---   Numbers     big-endian numbers: written and read back, over every width
---   Digits      hexadecimal digits: written and read back
---   Sizes       how many bytes an answer has
---   Refused     lines that are no frame, those longer than any frame among them
---   Texts       texts answered in parts: nothing is lost, nothing answered twice
---   Moving      bytes moved to the front
---   Example     document 01's five lines, computed
+--   Stores          bytes stored one behind the other, and read back
+--   Elements        what holds of each element of a list
+--   Numbers         big-endian numbers: written and read back, over every width
+--   Widths          numbers one behind the other, each in its width: written and read back
+--   Digits          hexadecimal digits: written and read back
+--   Sizes           how many bytes an answer has
+--   Refused         lines that are no frame, those longer than any frame among them
+--   Texts           texts answered in parts: nothing is lost, nothing answered twice
+--   Moving          bytes moved to the front
+--   Example         document 01's five lines, computed
+--   Images          a state's image: written and read back
+--   AcceptedImages  the test of acceptance; accepted images and accepted states
+--   Typed           a scheduler's numbers fit the fields of an image, by their types
+--   Reached         every state that calls reach from new, or from an accepted image, has an image
+--   AnswersFit      no number of an answer is too large for its field
 --
 -- How the functions are shown to meet their contracts: Runs is about numbers stored one behind the other,
 -- Encodings puts an answer together, Decodings is the table of calls, Cuts where a text is cut into lines, Tellings what one
--- line is told, Onward one line and then the others, Progress the loop that answers a text.
+-- line is told, Onward one line and then the others, Progress the loop that answers a text. Writings puts an image together. Passing
+-- is the loop that tests every slot or core, RecordBytes what a record's bytes say, Counting how often each slot stands in the queues,
+-- and Accepting has each way out of the test of an image.
 pub mod Stores
+pub mod Elements
 pub mod Numbers
+pub mod Widths
 pub mod Digits
 pub mod Sizes
-pub mod Widths
-pub mod Images
-pub mod AcceptedImages
 pub mod Refused
 pub mod Texts
 pub mod Moving
 pub mod Example
+pub mod Images
+pub mod AcceptedImages
+pub mod Typed
+pub mod Reached
+pub mod AnswersFit
 mod Runs
 mod Encodings
 mod Decodings
@@ -31,7 +44,6 @@ mod Tellings
 mod Onward
 mod Progress
 mod Writings
-mod Typed
 mod Passing
 mod RecordBytes
 mod Counting

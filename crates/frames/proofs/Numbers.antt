@@ -10,6 +10,7 @@ use lib.ListN.{length, getD, take, drop, set, length-append, length-drop}
 use lib.Seq.{sets, take-suc, take-all, getD-drop}
 use Rattle.scheduler.specs.Accepted.{Each}
 use Rattle.frames.specs.Bytes.{AllBytes, bigEndianFrom, bigEndian, bytesOf, written, IsNumber}
+use Rattle.frames.proofs.Elements.{each-append}
 use Rattle.frames.proofs.Stores.{sets-snoc}
 
 -- ---- the bytes of a number
@@ -19,21 +20,16 @@ unfolding bytesOf
 length-bytesOf zero x = refl
 length-bytesOf (suc width) x = simp length-append (omega (arith, length-bytesOf width (x / 256)))
 
-pub bytes-append : (a b : List ℕ) → AllBytes a → AllBytes b → AllBytes (a ++ b)
-unfolding Each
-bytes-append [] b ha hb = hb
-bytes-append (x ∷ a) b ha hb = (ha .0, bytes-append a b (ha .1) hb)
-
 pub bytesOf-bytes : (width x : ℕ) → AllBytes (bytesOf width x)
 unfolding bytesOf Each
 bytesOf-bytes zero x = tt
-bytesOf-bytes (suc width) x = bytes-append (bytesOf width (x / 256)) (x % 256 ∷ []) (bytesOf-bytes width (x / 256)) (omega arith, tt)
+bytesOf-bytes (suc width) x = each-append _ (bytesOf width (x / 256)) (x % 256 ∷ []) (bytesOf-bytes width (x / 256)) (omega arith, tt)
 
 pub written-bytes : (widths numbers : List ℕ) → AllBytes (written widths numbers)
 unfolding Each
 written-bytes [] numbers = tt
 written-bytes (width ∷ widths) [] = tt
-written-bytes (width ∷ widths) (x ∷ numbers) = bytes-append (bytesOf width x) (written widths numbers) (bytesOf-bytes width x) (written-bytes widths numbers)
+written-bytes (width ∷ widths) (x ∷ numbers) = each-append _ (bytesOf width x) (written widths numbers) (bytesOf-bytes width x) (written-bytes widths numbers)
 
 -- ---- the round trip
 

@@ -1,8 +1,6 @@
 -- Where it comes from that a state's numbers fit the fields of an image: from the types of the scheduler's fields. What a function is told of a
 -- parameter, or of what a call gave back, is `Is`: that the parameter is a value of its type. Assumes nothing.
-use mathlib.Core.Bool.{Bool, true, false}
 use mathlib.Core.List.{List, [], _∷_, map}
-use Prim.Native.Nat.{_<_}
 use native.Mathlib.Omega.{arith}
 use mir.Val.{Val}
 use denote.Array.{each}
@@ -15,16 +13,13 @@ use Rattle.records.proofs.Bands.{bandCode-small}
 use Rattle.records.proofs.States.{stateCode-small}
 use Rattle.scheduler.specs.declared.scheduler.QoSScheduler.{QoSScheduler}
 use Rattle.scheduler.specs.Accepted.{Each}
-use Rattle.scheduler.specs.Paper.{recordNumbers, flagNumber}
+use Rattle.scheduler.specs.Paper.{recordNumbers}
 use Rattle.scheduler.specs.Scheduler.{abs}
 use Rattle.scheduler.proofs.scheduler.QoSScheduler as scheduler
 use Rattle.frames.specs.Answer.{recordWidths}
 use Rattle.frames.specs.Bytes.{Fit}
 use Rattle.frames.specs.Image.{FitsImage}
-
-flag-small : (b : Bool) → flagNumber b < 256
-flag-small true = omega arith
-flag-small false = omega arith
+use Rattle.frames.proofs.Images.{flagNumber-small}
 
 -- tid, band, state, context, cr3, rsp0, mask, budget, consumed, in use
 typed-record : (t : TaskControlBlock) (vs : List Val) → Is (row block.the-type) t vs → Fit recordWidths (recordNumbers t)
@@ -41,7 +36,7 @@ typed-record t vs (_, (_, (tid, (_, (_, (context, (cr3, (rsp0, (mask, (budget, (
           cr3 .1,
           (
             rsp0 .1,
-            (mask .1, (budget .1, (consumed .1, (flag-small (t .«in_use»), tt)))),
+            (mask .1, (budget .1, (consumed .1, (omega (arith, flagNumber-small (t .«in_use»)), tt)))),
           ),
         ),
       ),

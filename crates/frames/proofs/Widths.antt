@@ -1,15 +1,16 @@
 -- Bytes that stand one behind the other, each piece in its width: a list cut into pieces and put together again, and the same for the numbers that
 -- the pieces stand for (`numbersAt` against `written`), both ways over any list of widths.
 -- Assumes nothing.
-use mathlib.Core.Path.{_≡_, refl, sym, ap, _∙_}
+use mathlib.Core.Path.{_≡_, refl, sym, ap, subst, _∙_}
 use mathlib.Core.List.{List, [], _∷_, _++_, map, flatten, append-assoc}
-use Prim.Native.Nat.{ℕ, zero, suc, _+_, _≤_}
-use native.Mathlib.Nat.{suc-inj, suc-ne-zero}
+use Prim.Native.Nat.{ℕ, suc, _+_, _*_, _≤_, _<_, _^_}
+use native.Mathlib.Nat.{suc-inj, suc-ne-zero, mul-assoc, mul-le-mul-right, pow-succ', pow-le-pow-right, lt-of-lt-of-le}
 use native.Mathlib.Omega.{arith}
 use lib.ListN.{length, take, drop, length-append, length-take, length-drop}
 use lib.Seq.{take-at, drop-append-seam, take-add, drop-drop}
 use Rattle.scheduler.specs.Accepted.{Each}
-use Rattle.frames.specs.Bytes.{AllBytes, bigEndian, bytesOf, part, numberAt, written, numbersAt, Fit, total}
+use Rattle.frames.specs.Bytes.{AllBytes, bigEndianFrom, bigEndian, bytesOf, part, numberAt, written, numbersAt, Fit, total}
+use Rattle.frames.proofs.Elements.{each-take, each-drop}
 use Rattle.frames.proofs.Numbers.{length-bytesOf, bigEndian-bytesOf, bytesOf-bigEndian}
 
 -- ---- a part
@@ -17,19 +18,6 @@ use Rattle.frames.proofs.Numbers.{length-bytesOf, bigEndian-bytesOf, by
 -- a part that stands there is as long as was asked for
 pub length-part : (at width : ℕ) (bytes : List ℕ) → at + width ≤ length bytes → length (part at width bytes) ≡ width
 length-part at width bytes h = omega (arith, length-take width (drop at bytes), length-drop at bytes)
-
--- what holds of each element holds of each element of a part
-each-take : {A : Type 0} (P : A → Type 0) (n : ℕ) (l : List A) → Each P l → Each P (take n l)
-unfolding Each
-each-take P zero l h = tt
-each-take P (suc n) [] h = tt
-each-take P (suc n) (a ∷ l) h = (h .0, each-take P n l (h .1))
-
-each-drop : {A : Type 0} (P : A → Type 0) (n : ℕ) (l : List A) → Each P l → Each P (drop n l)
-unfolding Each
-each-drop P zero l h = h
-each-drop P (suc n) [] h = tt
-each-drop P (suc n) (a ∷ l) h = each-drop P n l (h .1)
 
 -- a part of bytes is bytes
 pub bytes-part : (at width : ℕ) (bytes : List ℕ) → AllBytes bytes → AllBytes (part at width bytes)
@@ -85,6 +73,22 @@ length-flatten (piece ∷ pieces) = length-append piece (flatten pieces) ∙ ap 
 pub bytesOf-numberAt : (at width : ℕ) (bytes : List ℕ) → AllBytes bytes → at + width ≤ length bytes → bytesOf width (numberAt at width bytes) ≡ part at width bytes
 bytesOf-numberAt at width bytes h le =
     ap (λ (n : ℕ). bytesOf n (numberAt at width bytes)) (sym (length-part at width bytes le)) ∙ bytesOf-bigEndian (part at width bytes) (bytes-part at width bytes h)
+
+-- a number that is read fits its width
+bigEndian-small : (before : ℕ) (bytes : List ℕ) → AllBytes bytes → bigEndianFrom before bytes < suc before * 256 ^ length bytes
+unfolding bigEndianFrom Each
+bigEndian-small before [] h = omega arith
+bigEndian-small before (b ∷ bytes) h =
+    let room : suc (before * 256 + b) ≤ suc before * 256 = omega (arith, h .0) in
+    let wider : suc before * 256 * 256 ^ length bytes ≡ suc before * 256 ^ suc (length bytes) =
+    mul-assoc (suc before) 256 (256 ^ length bytes) ∙ ap (λ (n : ℕ). suc before * n) (sym (pow-succ' 256 (length bytes))) in
+    subst (λ (n : ℕ). bigEndianFrom (before * 256 + b) bytes < n) wider
+    (lt-of-lt-of-le (bigEndian-small (before * 256 + b) bytes (h .1)) (mul-le-mul-right (256 ^ length bytes) room))
+
+pub number-small : (at width : ℕ) (bytes : List ℕ) → AllBytes bytes → numberAt at width bytes < 256 ^ width
+number-small at width bytes h =
+    let short : length (part at width bytes) ≤ width = omega (arith, length-take width (drop at bytes)) in
+    omega (arith, bigEndian-small 0 (part at width bytes) (bytes-part at width bytes h), pow-le-pow-right {n = 256} (omega arith) short)
 
 -- numbers written behind other bytes, and read there
 pub numbersAt-behind : (front widths numbers : List ℕ) → length widths ≡ length numbers → Fit widths numbers →

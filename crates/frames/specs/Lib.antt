@@ -1,15 +1,19 @@
--- Document 01's frames and answers as lists of bytes, and text of lines. All of it computes; what a function promises is an equation to one of
--- these definitions, or a record with named fields of such equations.
+-- Document 01's frames and answers as lists of bytes, text of lines, and the image. All of it computes; what a function promises is an equation to
+-- one of these definitions, or a record with named fields of such equations.
 --
---   Bytes    big-endian numbers                  Hex      two digits a byte
---   Frame    which call a frame stands for       Answer   the bytes of an answer
---   Lines    lines of text, and the text of their answers
---   Blocks   text that is read in blocks
+--   Bytes           big-endian numbers                  Hex      two digits a byte
+--   Frame           which call a frame stands for       Answer   the bytes of an answer
+--   Lines           lines of text, and the text of their answers
+--   Blocks          text that is read in blocks
+--   Image           the bytes of a state, and the state that bytes stand for
+--   AcceptedImage   which images are accepted
+--   Fits            calls and answers whose numbers fit their fields, and states that have an image
 pub mod Bytes
 pub mod Hex
 pub mod Frame
 pub mod Answer
-pub mod Image
-pub mod AcceptedImage
 pub mod Lines
 pub mod Blocks
+pub mod Image
+pub mod AcceptedImage
+pub mod Fits

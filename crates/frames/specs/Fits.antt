@@ -1,0 +1,52 @@
+-- Document 01, "Task record, queues, holders": "Every state reached from new or an accepted image is again accepted, and writing then reading the
+-- image gives the same state". Calls whose numbers fit the fields that they are stored in, what is claimed of the states that such calls reach, and
+-- answers whose numbers fit their fields.
+use mathlib.Core.Path.{_≡_}
+use mathlib.Core.List.{_∷_}
+use Prim.Native.Nat.{_<_, _^_}
+use Rattle.scheduler.specs.declared.answer.Answer.{Answer}
+use Rattle.scheduler.specs.declared.call.Call.{Call}
+use Rattle.scheduler.specs.declared.call.Call.the-variants.{Create, Affinity, Terminate, Block, Wake, Enqueue, Schedule, Tick, Yield, Handoff, Plan, CanRunOnCore, TaskIndexForTid, Task, CurrentTaskOnCpu, SystemTicksUs, Holder}
+use Rattle.scheduler.specs.Accepted.{Accepted}
+use Rattle.scheduler.specs.Paper.{paper}
+use Rattle.scheduler.specs.State.{State}
+use Rattle.frames.specs.AcceptedImage.{AcceptedImage}
+use Rattle.frames.specs.Answer.{valueWidths}
+use Rattle.frames.specs.Bytes.{Fit}
+use Rattle.frames.specs.Image.{imageOf, stateAt, FitsImage}
+
+-- "tid 4, [..] context 8, cr3 8, rsp0 8, mask 8": what a call gives to be stored fits its width. Nothing is asked of the others: of slots and cores
+-- the rules keep only those below 64, and elapsed goes into sums that the rules bound.
+abbrev pub CallFits : Call → Type 0
+CallFits (Create tid band context cr3 rsp0) = (tid .0 < 256 ^ 4) × (context < 256 ^ 8) × (cr3 < 256 ^ 8) × (rsp0 < 256 ^ 8)
+CallFits (Affinity slot mask) = mask < 256 ^ 8
+CallFits (Terminate slot) = Unit
+CallFits (Block slot) = Unit
+CallFits (Wake slot) = Unit
+CallFits (Enqueue slot) = Unit
+CallFits (Schedule core) = Unit
+CallFits (Tick core elapsed) = Unit
+CallFits (Yield core) = Unit
+CallFits (Handoff core) = Unit
+CallFits (Plan core elapsed) = Unit
+CallFits (CanRunOnCore slot core) = Unit
+CallFits (TaskIndexForTid tid) = Unit
+CallFits (Task slot) = Unit
+CallFits (CurrentTaskOnCpu core) = Unit
+CallFits SystemTicksUs = Unit
+CallFits (Holder slot) = Unit
+
+-- what is claimed of a state that is reached
+pub record HasImage (s : State) : Type 0 where
+  -- it "is again accepted"
+  pub accepted : Accepted s
+  -- its numbers fit the fields of an image
+  pub fits : FitsImage s
+  -- its image is accepted too
+  pub image-accepted : AcceptedImage (imageOf s)
+  -- "writing then reading the image gives the same state"
+  pub reads-as : stateAt (imageOf s) ≡ s
+
+-- no number of an answer is too large for its field
+abbrev pub AnswerFits : Answer → Type 0
+AnswerFits a = Fit (1 ∷ 1 ∷ 1 ∷ valueWidths (a .value)) (paper a)
