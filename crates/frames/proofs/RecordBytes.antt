@@ -135,8 +135,8 @@ module _ (bytes : List ℕ) where
     record-rest c hc u e apart m some hr n =
         rw (holds c hc, use-is u e ∙ ap not apart, ne-eqb (t .«cpu_affinity») 0 (λ z. some (mask-is m ∙ z)), budget-fits ∙ not-false r hr, consumed-is n, size)
 
-  pub hold-unused : {r : Bool} → r ≡ t .«in_use» → not r ≡ true → false ≡ mayHold t
-  hold-unused e h = sym (rw (fails e h))
+  pub hold-unused : {r : Bool} → r ≡ t .«in_use» → r ≡ false → false ≡ mayHold t
+  hold-unused e h = sym (rw (sym e ∙ h))
 
-  pub hold-used : {r : Bool} {b s : ℕ} → r ≡ t .«in_use» → not r ≡ false → IsNumber 38 4 bytes b → s ≡ slice (t .qos) → eqb b s ≡ mayHold t
-  hold-used e h b s = rw (holds e h, budget-is b, s)
+  pub hold-used : {r : Bool} {b s : ℕ} → r ≡ t .«in_use» → r ≡ true → IsNumber 38 4 bytes b → s ≡ slice (t .qos) → eqb b s ≡ mayHold t
+  hold-used e h b s = rw (sym e ∙ h, budget-is b, s)

@@ -109,8 +109,6 @@ fn budget_fits(budget: u64, slice: u64) -> bool
 pub(crate) fn may_hold(bytes: &[u8]) -> bool
     ensures { λ r. ⌜ r ≡ mayHold (recordIn (now (bytes .entry))) ⌝ }
 {
-    if !is_in_use(bytes) {
-        return false;
-    }
-    number(bytes, BUDGET_AT, 4) == slice_in(bytes)
+    let whole = number(bytes, BUDGET_AT, 4) == slice_in(bytes);
+    if is_in_use(bytes) { whole } else { false }
 }
