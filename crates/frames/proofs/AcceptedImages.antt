@@ -23,6 +23,7 @@ use Rattle.scheduler.proofs.Says.{Says, equal, less, at-most, same, same-state,
 use Rattle.frames.specs.AcceptedImage.{AcceptedImage, slotFits, placeFits, bandFits, coreFits, acceptsImage}
 use Rattle.frames.specs.Answer.{recordWidths, recordBytes}
 use Rattle.frames.specs.Bytes.{AllBytes, bytesOf, numbersAt, Fit}
+use Rattle.frames.specs.Fits.{HasImage}
 use Rattle.frames.specs.Image.{holdersPlace, recordsBytes, queueBytes, queuesBytes, imageOf, recordAt, queueAt, lengthByte, slotByte, queueIn, stateAt, FitsImage}
 use Rattle.frames.proofs.Elements.{each-append, each-at}
 use Rattle.frames.proofs.Numbers.{bytesOf-bytes, written-bytes}
@@ -193,3 +194,7 @@ module _ (s : State) (a : Accepted s) (fits : FitsImage s) where
         budgets = again .budgets;
         consumed = again .consumed;
       }
+
+  -- and reads as the same state
+  pub has-image : HasImage s
+  has-image = record { accepted = a; fits = fits; image-accepted = image-accepted; reads-as = reads-back s a fits }

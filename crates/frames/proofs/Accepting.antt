@@ -23,7 +23,8 @@ use Rattle.scheduler.specs.State.{noneByte, bandOrder, task, queue, holder}
 use Rattle.scheduler.proofs.Says.{Says, less, at-most, both, each, bands}
 use Rattle.frames.specs.Bytes.{part}
 use Rattle.frames.specs.Image.{imageLength, queuePlace, holdersPlace, recordIn, recordAt, queueAt, lengthByte, slotByte, stateAt}
-use Rattle.frames.specs.AcceptedImage.{codesFit, slotFits, placeFits, bandFits, coreFits, acceptsImage, LengthsFit}
+use Rattle.frames.specs.AcceptedImage.{codesFit, slotFits, placeFits, bandFits, coreFits, acceptsImage}
+use Rattle.frames.specs.ImageParts.{LengthsFit}
 use Rattle.scheduler.proofs.Stored.{read-any}
 use Rattle.frames.proofs.Images.{task-read, task-past, queue-read}
 use Rattle.frames.proofs.AcceptedImages.{entry-read}

@@ -50,9 +50,9 @@ use Rattle.frames.specs.Bytes.{AllBytes, numberAt, Fit}
 use Rattle.frames.specs.Fits.{CallFits, HasImage}
 use Rattle.frames.specs.Frame.{argumentsLength, createIn, callsIn, frameCall}
 use Rattle.frames.specs.Image.{recordLength, recordPlace, microsPlace, recordIn, recordAt, stateAt, FitsImage}
-use Rattle.frames.proofs.AcceptedImages.{accepted-state, image-accepted}
+use Rattle.frames.proofs.AcceptedImages.{accepted-state, has-image}
 use Rattle.frames.proofs.Elements.{each-read, read-each, stored-read}
-use Rattle.frames.proofs.Images.{flagNumber-small, length-tasks, task-read, reads-back}
+use Rattle.frames.proofs.Images.{flagNumber-small, length-tasks, task-read}
 use Rattle.frames.proofs.Widths.{bytes-part, number-small}
 
 -- ---- what acceptance does not bound
@@ -229,7 +229,7 @@ kept-fits call s a fit f = bounded-fits (step call s .state) (call-accepted call
 -- by any calls whose numbers fit, from an accepted state whose numbers fit
 pub reached-image : (s : State) (calls : List Call) → Accepted s → FitsImage s → Each CallFits calls → HasImage (run calls s)
 unfolding run Each
-reached-image s [] a f fit = record { accepted = a; fits = f; image-accepted = image-accepted s a f; reads-as = reads-back s a f }
+reached-image s [] a f fit = has-image s a f
 reached-image s (call ∷ calls) a f fit = reached-image (step call s .state) calls (call-accepted call s a) (kept-fits call s a (fit .0) f) (fit .1)
 
 -- from new

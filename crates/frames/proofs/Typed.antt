@@ -1,5 +1,6 @@
 -- Where it comes from that a state's numbers fit the fields of an image: from the types of the scheduler's fields. What a function is told of a
--- parameter, or of what a call gave back, is `Is`: that the parameter is a value of its type. Assumes nothing.
+-- parameter, or of what a call gave back, is `Is`: that the parameter is a value of its type. So every valid scheduler's state has an image.
+-- Assumes nothing.
 use mathlib.Core.List.{List, [], _∷_, map}
 use native.Mathlib.Omega.{arith}
 use mir.Val.{Val}
@@ -14,11 +15,13 @@ use Rattle.records.proofs.States.{stateCode-small}
 use Rattle.scheduler.specs.declared.scheduler.QoSScheduler.{QoSScheduler}
 use Rattle.scheduler.specs.Accepted.{Each}
 use Rattle.scheduler.specs.Paper.{recordNumbers}
-use Rattle.scheduler.specs.Scheduler.{abs}
+use Rattle.scheduler.specs.Scheduler.{abs, Valid}
 use Rattle.scheduler.proofs.scheduler.QoSScheduler as scheduler
 use Rattle.frames.specs.Answer.{recordWidths}
 use Rattle.frames.specs.Bytes.{Fit}
 use Rattle.frames.specs.Image.{FitsImage}
+use Rattle.frames.specs.Fits.{HasImage}
+use Rattle.frames.proofs.AcceptedImages.{has-image}
 use Rattle.frames.proofs.Images.{flagNumber-small}
 
 -- tid, band, state, context, cr3, rsp0, mask, budget, consumed, in use
@@ -54,3 +57,7 @@ typed-records (t ∷ ts) (v ∷ vs) p = (typed-record t (v ∷ []) (p .0), typed
 pub typed-fits : (s : QoSScheduler) (vs : List Val) → Is (row scheduler.the-type) s vs → FitsImage (abs s)
 unfolding abs
 typed-fits s vs (_, (_, (tasks, (_, (_, (micros, _)))))) = record { records = typed-records (s .tasks) (tasks .0) (tasks .1 .1); micros = micros .1 }
+
+-- a valid scheduler's state has an image
+pub valid-image : (s : QoSScheduler) (vs : List Val) → Is (row scheduler.the-type) s vs → Valid s → HasImage (abs s)
+valid-image s vs p v = has-image (abs s) (v .accepted) (typed-fits s vs p)

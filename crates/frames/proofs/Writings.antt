@@ -18,14 +18,14 @@ use Rattle.queue.specs.Rules.{places}
 use Rattle.queue.specs.Stored.{entries, WellFormed}
 use Rattle.scheduler.specs.declared.scheduler.QoSScheduler.{QoSScheduler}
 use Rattle.scheduler.specs.Scheduler.{queuesOf, abs, Whole, Valid}
-use Rattle.scheduler.specs.State.{Queues, ofBand}
+use Rattle.scheduler.specs.State.{State, Queues, ofBand}
 use Rattle.scheduler.proofs.Stored.{ring-of, entries-of}
 use Rattle.frames.specs.Answer.{recordBytes}
 use Rattle.frames.specs.Bytes.{bytesOf}
-use Rattle.frames.specs.Image.{imageLength, recordsBytes, queueBytes, queuesBytes, imageOf, FitsImage}
-use Rattle.frames.specs.AcceptedImage.{Short, WritesImage}
-use Rattle.frames.proofs.AcceptedImages.{image-accepted}
-use Rattle.frames.proofs.Images.{length-recordsBytes, length-queueBytes, length-imageOf, reads-back}
+use Rattle.frames.specs.Image.{imageLength, recordsBytes, queueBytes, queuesBytes, imageOf}
+use Rattle.frames.specs.Fits.{HasImage}
+use Rattle.frames.specs.ImageParts.{Short, WritesImage}
+use Rattle.frames.proofs.Images.{length-recordsBytes, length-queueBytes, length-imageOf}
 use Rattle.frames.proofs.Runs.{behind, run}
 use Rattle.frames.proofs.Sizes.{length-recordBytes}
 use Rattle.frames.proofs.Stores.{sets-append, sets-all}
@@ -127,12 +127,7 @@ module _ (s : QoSScheduler) (v : Valid s) where
       (omega (arith, n₁, n₂, v .accepted .cores, length-append records queues, length-append (records ++ queues) (s .current))) e₄
       ∙ sets-all o _ (length-imageOf (abs s) (v .accepted) ∙ sym long)
 
-  -- what the writer promises, by whether the buffer has an image's length
-  pub image-written : FitsImage (abs s) → (before : List ℕ) {after : List ℕ} {r : Bool} → eqb (length before) imageLength ≡ r
-      → after ≡ cond r (imageOf (abs s)) before → WritesImage (abs s) before after r
-  image-written fits before {after} {r} e is = record {
-    done-is = sym e;
-    image-is = rw e is;
-    accepted = image-accepted (abs s) (v .accepted) fits;
-    reads-as = reads-back (abs s) (v .accepted) fits;
-  }
+-- what the writer promises, by whether the buffer has an image's length
+pub image-written : {s : State} → HasImage s → (before : List ℕ) {after : List ℕ} {r : Bool} → eqb (length before) imageLength ≡ r
+    → after ≡ cond r (imageOf s) before → WritesImage s before after r
+image-written has before e is = record { done-is = sym e; image-is = rw e is; has-image = has }

@@ -5,19 +5,18 @@ use mathlib.Core.Path.{_≡_}
 use mathlib.Core.Bool.{Bool, cond, not, _&&_}
 use mathlib.Core.List.{List}
 use mathlib.Core.Logic.{_⊎_}
-use Prim.Native.Nat.{ℕ, _+_, _≤_, _<_}
+use Prim.Native.Nat.{ℕ, _≤_, _<_}
 use lib.Dec.{ltb, leb, eqb}
 use lib.ListN.{length, getD}
 use Rattle.records.specs.declared.band.QoSClass.{QoSClass}
 use Rattle.records.specs.declared.state.ThreadState.the-variants.{Ready, Terminated}
 use Rattle.records.specs.Band.{slice}
 use Rattle.records.specs.State.{isState}
-use Rattle.queue.specs.Rules.{count}
 use Rattle.scheduler.specs.Accepted.{ReadyOf, MayHold, every, everyBelow, standings, recordFits, readyOf, standsOnce, holderFits}
-use Rattle.scheduler.specs.State.{State, Queues, noneByte, bandOrder, task, ofBand, holder}
+use Rattle.scheduler.specs.State.{noneByte, bandOrder, task, holder}
 use Rattle.frames.specs.Answer.{recordWidths}
 use Rattle.frames.specs.Bytes.{AllBytes, numbersAt}
-use Rattle.frames.specs.Image.{imageLength, recordAt, queueAt, lengthByte, slotByte, imageOf, stateAt}
+use Rattle.frames.specs.Image.{imageLength, recordAt, queueAt, lengthByte, slotByte, stateAt}
 
 -- the codes of a record's 47 bytes
 abbrev pub bandByte : List ℕ → ℕ
@@ -90,30 +89,3 @@ acceptsImage image =
     every (bandFits image) bandOrder &&
     everyBelow 64 (standsOnce (stateAt image)) &&
     everyBelow 64 (coreFits image)
-
--- ---- what the counting of entries presumes and promises
-
-abbrev pub LengthsFit : List ℕ → Type 0
-LengthsFit image = (band : QoSClass) → lengthByte (queueAt band image) ≤ 64
-
-abbrev pub AtMost : ℕ → List ℕ → Type 0
-AtMost n counts = (slot : ℕ) → getD counts slot 0 ≤ n
-
--- each slot's count has gained as often as the slot stands among these entries
-pub record Counted (es before after : List ℕ) : Type 0 where
-  pub whole : length after ≡ 64
-  pub counts-are : (slot : ℕ) → slot < 64 → getD after slot 0 ≡ getD before slot 0 + count slot es
-
--- ---- what the writer promises
-
--- queues of at most 64 entries
-abbrev pub Short : Queues → Type 0
-Short q = (band : QoSClass) → length (ofBand q band) ≤ 64
-
--- The state's image is written over a buffer of an image's length, and no other buffer is touched. A state's numbers fit their fields by their
--- types, so that what is written is an image that is accepted, and reads as the same state.
-pub record WritesImage (s : State) (before after : List ℕ) (r : Bool) : Type 0 where
-  pub done-is : r ≡ eqb (length before) imageLength
-  pub image-is : after ≡ cond (eqb (length before) imageLength) (imageOf s) before
-  pub accepted : AcceptedImage (imageOf s)
-  pub reads-as : stateAt (imageOf s) ≡ s

@@ -36,7 +36,7 @@ CallFits (CurrentTaskOnCpu core) = Unit
 CallFits SystemTicksUs = Unit
 CallFits (Holder slot) = Unit
 
--- what is claimed of a state that is reached
+-- what is claimed of every state that is reached, and of every state that a valid scheduler has
 pub record HasImage (s : State) : Type 0 where
   -- it "is again accepted"
   pub accepted : Accepted s

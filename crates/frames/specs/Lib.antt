@@ -8,6 +8,7 @@
 --   Image           the bytes of a state, and the state that bytes stand for
 --   AcceptedImage   which images are accepted
 --   Fits            calls and answers whose numbers fit their fields, and states that have an image
+--   ImageParts      what the writer of images promises, and the parts of writer and test
 pub mod Bytes
 pub mod Hex
 pub mod Frame
@@ -17,3 +18,4 @@ pub mod Blocks
 pub mod Image
 pub mod AcceptedImage
 pub mod Fits
+pub mod ImageParts

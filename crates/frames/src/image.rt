@@ -6,7 +6,7 @@ ghost use lib.Seq.{sets};
 ghost use Rattle.queue.specs.Stored.{entries, WellFormed};
 ghost use Rattle.scheduler.specs.Scheduler.{abs, queuesOf, Valid, Whole};
 ghost use Rattle.frames.specs.Image.{queueLength, queuesPlace, recordsBytes, queueBytes, queuesBytes};
-ghost use Rattle.frames.specs.AcceptedImage.{WritesImage, Short};
+ghost use Rattle.frames.specs.ImageParts.{WritesImage, Short};
 use crate::bytes::put_bytes;
 use crate::bytes::put_number;
 use crate::encode::put_record;

@@ -3,7 +3,7 @@ use mathlib.Core.Path.{refl}
 use native.Mathlib.Omega.{arith}
 use borrow.Author.Needs.{needs}
 use borrow.Author.Tests.{eq-eqb, ne-eqb}
-use Rattle.frames.proofs.Typed.{typed-fits}
+use Rattle.frames.proofs.Typed.{valid-image}
 use Rattle.scheduler.proofs.Stored.{cores}
 use Rattle.frames.proofs.Writings.{queues-short, image-put, image-written}
 use Rattle.frames.proofs.image.write_image.Statement.{statement}
@@ -12,7 +12,7 @@ use Rattle.frames.proofs.image.write_image.Tie as tie
 returns : tie.Need-returns
 returns c =
     let start = c .before .before in
-    image-written (start .args .state) (start .pre) (typed-fits _ _ (start .good .0)) _ (ne-eqb _ _ (c .if1 .taken)) refl
+    image-written (valid-image _ _ (start .good .0) (start .pre)) _ (ne-eqb _ _ (c .if1 .taken)) refl
 
 put-queues-requires : tie.Need-put-queues-requires
 put-queues-requires c κs =
@@ -32,7 +32,7 @@ returns-2 c =
     let at-if = at-put-records .before .before .before .before .before in
     let start = at-if .before .before in
     let long = at-if .if1 .left in
-    image-written (start .args .state) (start .pre) (typed-fits _ _ (start .good .0)) _ (eq-eqb _ _ long)
+    image-written (valid-image _ _ (start .good .0) (start .pre)) _ (eq-eqb _ _ long)
     (image-put (start .args .state) (start .pre) _ long (at-put-records .put-records .ensures) (at-put-queues .put-queues .ensures)
     (at-put-bytes .put-bytes .ensures) (at-put-number .put-number .ensures))
 
