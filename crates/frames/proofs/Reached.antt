@@ -50,6 +50,7 @@ use Rattle.frames.specs.Bytes.{AllBytes, numberAt, Fit}
 use Rattle.frames.specs.Fits.{CallFits, HasImage}
 use Rattle.frames.specs.Frame.{argumentsLength, createIn, callsIn, frameCall}
 use Rattle.frames.specs.Image.{recordLength, recordPlace, microsPlace, recordIn, recordAt, stateAt, FitsImage}
+use Rattle.frames.specs.Lines.{said}
 use Rattle.frames.proofs.AcceptedImages.{accepted-state, has-image}
 use Rattle.frames.proofs.Elements.{each-read, read-each, stored-read}
 use Rattle.frames.proofs.Images.{flagNumber-small, length-tasks, task-read}
@@ -287,3 +288,13 @@ read-fits (call ∷ arguments) h =
 -- a call that is read from a frame has numbers that fit
 pub frame-fits : (frame : List ℕ) (call : Call) → AllBytes frame → frameCall frame ≡ Some call → CallFits call
 frame-fits frame call h is = subst ReadFits is (read-fits frame h)
+
+-- ---- what a frame makes of a state that has an image has one too
+
+said-image : (c : CallOption) (s : State) → ReadFits c → HasImage s → HasImage (said c s .state)
+unfolding run Each
+said-image None s fit has = has
+said-image (Some call) s fit has = reached-image s (call ∷ []) (has .accepted) (has .fits) (fit, tt)
+
+pub frame-image : (frame : List ℕ) (s : State) → AllBytes frame → HasImage s → HasImage (said (frameCall frame) s .state)
+frame-image frame s h = said-image (frameCall frame) s (read-fits frame h)
