@@ -18,13 +18,13 @@ use Rattle.queue.specs.Rules.{places}
 use Rattle.scheduler.specs.Accepted.{Accepted, Each}
 use Rattle.scheduler.specs.Paper.{recordNumbers}
 use Rattle.scheduler.specs.State.{State, noneByte, task, queue, holder}
-use Rattle.scheduler.proofs.Invariant.{ready-in-table, used-in-table}
+use Rattle.scheduler.proofs.Invariant.{ready-in-table, used-in-table, accepted-invariant}
 use Rattle.scheduler.proofs.Says.{Says, equal, less, at-most, same, same-state, both, either, never, implies, within, all-of, below, each, bands, ready-of, may-hold}
 use Rattle.frames.specs.AcceptedImage.{AcceptedImage, slotFits, placeFits, bandFits, coreFits, acceptsImage}
 use Rattle.frames.specs.Answer.{recordWidths, recordBytes}
-use Rattle.frames.specs.Bytes.{AllBytes, bytesOf, numbersAt, Fit}
+use Rattle.frames.specs.Bytes.{AllBytes, bytesOf, numbersAt}
 use Rattle.frames.specs.Fits.{HasImage}
-use Rattle.frames.specs.Image.{holdersPlace, recordsBytes, queueBytes, queuesBytes, imageOf, recordAt, queueAt, lengthByte, slotByte, queueIn, stateAt, FitsImage}
+use Rattle.frames.specs.Image.{holdersPlace, recordsBytes, queueBytes, queuesBytes, imageOf, recordAt, queueAt, lengthByte, slotByte, queueIn, stateAt, FitsImage, RecordFits}
 use Rattle.frames.proofs.Elements.{each-append, each-at}
 use Rattle.frames.proofs.Numbers.{bytesOf-bytes, written-bytes}
 use Rattle.frames.proofs.Widths.{length-part, numbersAt-written}
@@ -119,12 +119,9 @@ module _ (s : State) (a : Accepted s) where
   entry-small band place h =
       ready-in-table s (a .slots) (getD (queue s band) place 0) (a .entries band place h .ready)
 
-  holder-small : (core : ℕ) → core < length (s .holders) → holder s core < 256
-  holder-small core h =
-      ⊎-elim
-      (λ none. omega arith)
-      (λ m. omega (arith, used-in-table s (a .slots) (holder s core) (m .used)))
-      (a .holders core (omega (arith, a .cores)))
+  pub holder-small : (core : ℕ) → holder s core < 256
+  holder-small core =
+      ⊎-elim (λ none. omega arith) (λ m. omega (arith, used-in-table s (a .slots) (holder s core) (m .used))) (accepted-invariant s a .held core)
 
   band-bytes : (band : QoSClass) → AllBytes (queueBytes (queue s band))
   band-bytes band = queue-bytes (queue s band) (a .lengths band) (entry-small band)
@@ -136,7 +133,7 @@ module _ (s : State) (a : Accepted s) where
       (each-append _ _ (s .holders)
       (each-append _ (recordsBytes (s .tasks)) _ (records-bytes (s .tasks))
       (each-append _ _ _ (each-append _ _ _ (band-bytes UserInteractive) (band-bytes RealTimeIO)) (band-bytes Background)))
-      (bytes-by-place (s .holders) noneByte holder-small))
+      (bytes-by-place (s .holders) noneByte (λ core _. holder-small core)))
       (bytesOf-bytes 8 (s .micros))
 
 -- ---- the image of an accepted state is accepted
@@ -161,10 +158,10 @@ module _ (s : State) (a : Accepted s) (fits : FitsImage s) where
       getD (numbersAt 0 recordWidths (recordAt slot (imageOf s))) i 0 ≡ getD (recordNumbers (task s slot)) i 0
   unfolding recordBytes
   number-is slot h i =
-      let fit : Fit recordWidths (recordNumbers (task s slot)) =
-      each-at (λ t. Fit recordWidths (recordNumbers t)) (s .tasks) slot emptyRecord (fits .records) (omega (arith, a .slots)) in
+      let fit : RecordFits (task s slot) =
+      each-at RecordFits (s .tasks) slot emptyRecord (fits .records) (omega (arith, a .slots)) in
       ap (λ (numbers : List ℕ). getD numbers i 0)
-      (ap (numbersAt 0 recordWidths) (record-at s (a .slots) slot h) ∙ numbersAt-written recordWidths (recordNumbers (task s slot)) refl fit)
+      (ap (numbersAt 0 recordWidths) (record-at s (a .slots) slot h) ∙ numbersAt-written recordWidths (recordNumbers (task s slot)) fit)
 
   -- the length byte and the slot bytes of a band's queue, as they stand there
   length-is : (band : QoSClass) → lengthByte (queueAt band (imageOf s)) ≡ length (queue s band)

@@ -4,7 +4,6 @@
 use mathlib.Core.Path.{_≡_}
 use mathlib.Core.Bool.{false, not}
 use mathlib.Core.List.{[], _∷_}
-use mathlib.Core.Logic.{⊎-elim}
 use Prim.Native.Nat.{ℕ, _<_}
 use native.Mathlib.Omega.{arith}
 use borrow.Author.Tests.{leb-false}
@@ -44,11 +43,11 @@ use Rattle.scheduler.specs.Step.{step}
 use Rattle.scheduler.specs.Ticking.{gain, cleared, sliceOver, requeued, tickHolder, ticked, tick, targetOf, same, planOf, answerPlan, yieldHolder, yield, handoffIn, handoffHolder, handoff, planned}
 use Rattle.scheduler.specs.Waking.{freeSlot, coreHolding, create, affinity, terminate, missing, block, enqueue, isHeld, wake}
 use Rattle.scheduler.proofs.Calls.{call-accepted}
-use Rattle.scheduler.proofs.Invariant.{used-in-table, accepted-invariant}
 use Rattle.frames.specs.Answer.{valueWidths}
 use Rattle.frames.specs.Bytes.{Fit}
 use Rattle.frames.specs.Fits.{CallFits, AnswerFits}
 use Rattle.frames.specs.Image.{FitsImage}
+use Rattle.frames.proofs.AcceptedImages.{holder-small}
 use Rattle.frames.proofs.Images.{flagNumber-small}
 use Rattle.frames.proofs.Reached.{Bounded, record-of, fits-bounded, call-bounded}
 
@@ -121,13 +120,8 @@ module _ (s : State) where
 
 -- ---- who is to run on a core
 
--- a holder in an accepted state is a slot, or 255
-held-small : (s : State) → Accepted s → (core : ℕ) → holder s core < 256
-held-small s a core =
-    ⊎-elim (λ none. omega arith) (λ m. omega (arith, used-in-table s (a .slots) (holder s core) (m .used))) (accepted-invariant s a .held core)
-
 holder-fits : (s : State) → Accepted s → (core : ℕ) → SlotFits (holderOf s core)
-holder-fits s a core = by-if SlotFits (eqb (holder s core) noneByte) (λ _. omega arith) (λ _. held-small s a core)
+holder-fits s a core = by-if SlotFits (eqb (holder s core) noneByte) (λ _. omega arith) (λ _. holder-small s a core)
 
 -- where the state that a choice leaves is accepted, who is to run fits a byte, and the pick too
 abbrev NextFits : Chosen → Type 0
@@ -144,7 +138,7 @@ P-next s core = by-if NextFits (leb 64 core) (λ _ _. (omega arith, tt)) (λ low
         let i : ℕ = p .slot .0 in
         let t : State = afterPick s core (pick.Some p) .state in
         let held : holder t core ≡ i = getD-set-same (s .holders) core i noneByte (omega (arith, a .cores, length-set (s .holders) core i)) in
-        let small : i < 256 = omega (arith, held-small t a core) in
+        let small : i < 256 = omega (arith, holder-small t a core) in
         (small, small)
 
 tick-next : (s : State) (core elapsed : ℕ) (h : SlotOption) → SlotFits h → NextFits (tickHolder h core elapsed s)

@@ -7,7 +7,7 @@ use mathlib.Core.List.{List, [], _∷_, _++_, map, flatten, append-assoc, append
 use Prim.Native.Nat.{ℕ, zero, suc, _+_, _-_, _*_, _≤_, _<_, _^_}
 use native.Mathlib.Omega.{arith}
 use lib.Dec.{eqb}
-use lib.ListN.{length, getD, take, drop, replicate, length-append, length-drop, length-replicate, take-append-drop, List·getD-eq-default}
+use lib.ListN.{length, getD, take, drop, replicate, length-append, length-drop, take-append-drop, List·getD-eq-default}
 use lib.Seq.{take-all, take-at, drop-at, take-add, take-append-seam, drop-drop, length-take-le, getD-drop}
 use Rattle.records.specs.declared.band.QoSClass.{QoSClass}
 use Rattle.records.specs.declared.band.QoSClass.the-variants.{UserInteractive, RealTimeIO, Background}
@@ -19,17 +19,24 @@ use Rattle.records.specs.State.{stateCode}
 use Rattle.records.specs.Task.{emptyRecord}
 use Rattle.records.proofs.Bands.{bandCode-small}
 use Rattle.queue.specs.Rules.{places}
+use Rattle.queue.proofs.Rules.{length-places}
 use Rattle.scheduler.specs.Accepted.{Each, Accepted}
 use Rattle.scheduler.specs.Paper.{recordNumbers, flagNumber}
 use Rattle.scheduler.specs.State.{State, task, queue}
 use Rattle.frames.specs.AcceptedImage.{AcceptedImage, bandByte, stateByte, inUseByte}
 use Rattle.frames.specs.Answer.{recordWidths, recordBytes}
-use Rattle.frames.specs.Bytes.{AllBytes, bytesOf, bigEndian, part, numberAt, total, Fit}
-use Rattle.frames.specs.Image.{recordLength, queueLength, recordPlace, queuePlace, holdersPlace, microsPlace, imageLength}
-use Rattle.frames.specs.Image.{recordsBytes, queueBytes, queuesBytes, imageOf, bandOf, stateOf, recordOf, recordIn, recordsIn, recordAt, queueAt, lengthByte, slotByte, queueIn, stateAt, FitsImage}
+use Rattle.frames.specs.Bytes.{AllBytes, bytesOf, bigEndian, part, numberAt, total}
+use Rattle.frames.specs.Image.{recordLength, queueLength, recordPlace, queuesPlace, queuePlace, holdersPlace, microsPlace, imageLength}
+use Rattle.frames.specs.Image.{recordsBytes, queueBytes, queuesBytes, imageOf, bandOf, stateOf, recordOf, recordIn, recordsIn, recordAt, queueAt, lengthByte, slotByte, queueIn, stateAt, FitsImage, RecordFits}
 use Rattle.frames.proofs.Numbers.{length-bytesOf, bigEndian-bytesOf}
 use Rattle.frames.proofs.Sizes.{length-recordBytes}
 use Rattle.frames.proofs.Widths.{length-part, bytes-part, piecesAt, pieces-flatten, flatten-pieces, length-flatten, bytesOf-numberAt, numbersAt-written, written-numbersAt}
+
+-- ---- the table
+
+-- document 01's own numbers
+pub sizes : (recordLength ≡ 47) × (queuesPlace ≡ 3008) × (3 * queueLength ≡ 195) × (imageLength ≡ 3275)
+sizes = (refl, refl, refl, refl)
 
 -- ---- codes
 
@@ -78,9 +85,9 @@ recordOf-numbers : (t : TaskControlBlock) → recordOf (recordNumbers t) ≡ t
 recordOf-numbers t = rw (bandOf-code (t .qos), stateOf-code (t .state), flag-number (t .«in_use»))
 
 -- written, and read back
-pub recordIn-recordBytes : (t : TaskControlBlock) → Fit recordWidths (recordNumbers t) → recordIn (recordBytes t) ≡ t
+pub recordIn-recordBytes : (t : TaskControlBlock) → RecordFits t → recordIn (recordBytes t) ≡ t
 unfolding recordIn recordBytes
-recordIn-recordBytes t fit = ap recordOf (numbersAt-written recordWidths (recordNumbers t) refl fit) ∙ recordOf-numbers t
+recordIn-recordBytes t fit = ap recordOf (numbersAt-written recordWidths (recordNumbers t) fit) ∙ recordOf-numbers t
 
 -- read, and written again
 pub recordBytes-recordIn : (bytes : List ℕ) → AllBytes bytes → length bytes ≡ recordLength → bandByte bytes < 3 → stateByte bytes < 4 → inUseByte bytes < 2 →
@@ -124,7 +131,7 @@ record-in (t ∷ ts) rest (suc slot) d l =
     recordAt-suc slot (recordsBytes (t ∷ ts) ++ rest) ∙ ap (recordAt slot) (other-records t ts rest) ∙ record-in ts rest slot d (omega (arith, l))
 
 -- written, and read back
-recordsIn-recordsBytes : (ts : List TaskControlBlock) (rest : List ℕ) → Each (λ (t : TaskControlBlock). Fit recordWidths (recordNumbers t)) ts →
+recordsIn-recordsBytes : (ts : List TaskControlBlock) (rest : List ℕ) → Each RecordFits ts →
     recordsIn (length ts) (recordsBytes ts ++ rest) ≡ ts
 unfolding recordsIn Each
 recordsIn-recordsBytes [] rest fit = refl
@@ -184,8 +191,8 @@ queue-read image Background = refl
 
 -- 65 bytes
 pub length-queueBytes : (es : List ℕ) → length es ≤ 64 → length (queueBytes es) ≡ queueLength
-unfolding queueBytes places
-length-queueBytes es small = omega (arith, length-append es (replicate (64 - length es) 0), length-replicate {A = ℕ} (64 - length es) 0)
+unfolding queueBytes
+length-queueBytes es small = ap suc (length-places es small)
 
 -- written, and read back
 pub queueIn-queueBytes : (es : List ℕ) → queueIn (queueBytes es) ≡ es
@@ -243,7 +250,7 @@ module _ (s : State) (slots : length (s .tasks) ≡ 64) where
   record-at slot l = ap (recordAt slot) (records-first s .1) ∙ record-in (s .tasks) (records-first s .0) slot _ (omega (arith, slots, l))
 
   -- all records
-  pub records-at : Each (λ (t : TaskControlBlock). Fit recordWidths (recordNumbers t)) (s .tasks) → recordsIn 64 (imageOf s) ≡ s .tasks
+  pub records-at : Each RecordFits (s .tasks) → recordsIn 64 (imageOf s) ≡ s .tasks
   records-at fit =
       subst (λ (n : ℕ). recordsIn n (imageOf s) ≡ s .tasks) slots
       (ap (recordsIn (length (s .tasks))) (records-first s .1) ∙ recordsIn-recordsBytes (s .tasks) (records-first s .0) fit)

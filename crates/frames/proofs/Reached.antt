@@ -32,10 +32,13 @@ use Rattle.scheduler.specs.declared.answer.Status.{Status}
 use Rattle.scheduler.specs.declared.answer.Status.the-variants.{Done, Refused}
 use Rattle.scheduler.specs.declared.call.Call.{Call}
 use Rattle.scheduler.specs.declared.call.Call.the-variants.{Create, Affinity, Terminate, Block, Wake, Enqueue, Schedule, Tick, Yield, Handoff, Plan, CanRunOnCore, TaskIndexForTid, Task, CurrentTaskOnCpu, SystemTicksUs, Holder}
+use Rattle.scheduler.specs.declared.scheduler.QoSScheduler.{QoSScheduler}
+use Rattle.scheduler.specs.declared.scheduler.Reply.{Reply}
 use Rattle.scheduler.specs.Accepted.{Each, Accepted}
 use Rattle.scheduler.specs.Outcome.{Outcome, Chosen, goOn}
-use Rattle.scheduler.specs.Paper.{flagNumber, recordNumbers}
+use Rattle.scheduler.specs.Paper.{flagNumber}
 use Rattle.scheduler.specs.Picking.{choice, afterPick, ruleP, schedule}
+use Rattle.scheduler.specs.Scheduler.{abs, Valid, Meets}
 use Rattle.scheduler.specs.State.{State, newState, bandOrder, task, queue, holderOf, withTask}
 use Rattle.scheduler.specs.Step.{step, run}
 use Rattle.scheduler.specs.Ticking.{gain, cleared, sliceOver, charged, requeued, tickHolder, ticked, tick, yieldHolder, yield, handoffIn, handoffHolder, handoff, planned}
@@ -45,11 +48,10 @@ use Rattle.scheduler.proofs.Invariant.{Good, empty-good, everywhere, accepted-i
 use Rattle.frames.specs.declared.decode.CallOption.{CallOption}
 use Rattle.frames.specs.declared.decode.CallOption.the-variants.{None, Some}
 use Rattle.frames.specs.AcceptedImage.{AcceptedImage}
-use Rattle.frames.specs.Answer.{recordWidths}
 use Rattle.frames.specs.Bytes.{AllBytes, numberAt, Fit}
 use Rattle.frames.specs.Fits.{CallFits, HasImage}
 use Rattle.frames.specs.Frame.{argumentsLength, createIn, callsIn, frameCall}
-use Rattle.frames.specs.Image.{recordLength, recordPlace, microsPlace, recordIn, recordAt, stateAt, FitsImage}
+use Rattle.frames.specs.Image.{recordLength, recordPlace, microsPlace, recordIn, recordAt, stateAt, FitsImage, RecordFits}
 use Rattle.frames.specs.Lines.{said}
 use Rattle.frames.proofs.AcceptedImages.{accepted-state, has-image}
 use Rattle.frames.proofs.Elements.{each-read, read-each, stored-read}
@@ -57,10 +59,6 @@ use Rattle.frames.proofs.Images.{flagNumber-small, length-tasks, task-r
 use Rattle.frames.proofs.Widths.{bytes-part, number-small}
 
 -- ---- what acceptance does not bound
-
--- all numbers of a record fit
-abbrev RecordFits : TaskControlBlock → Type 0
-RecordFits t = Fit recordWidths (recordNumbers t)
 
 -- those that calls give: tid, context, cr3, rsp0, mask. Of a record that is `changed` this says the same, where the mask stays.
 abbrev Given : TaskControlBlock → Type 0
@@ -232,6 +230,11 @@ pub reached-image : (s : State) (calls : List Call) → Accepted s → FitsImage
 unfolding run Each
 reached-image s [] a f fit = has-image s a f
 reached-image s (call ∷ calls) a f fit = reached-image (step call s .state) calls (call-accepted call s a) (kept-fits call s a (fit .0) f) (fit .1)
+
+-- by a call that keeps its contract, whose numbers fit
+pub meets-image : (call : Call) (s : QoSScheduler) (r : Reply) → Meets call s r → Valid s → CallFits call → FitsImage (abs s) → HasImage (abs (r .state))
+meets-image call s r m v fit f =
+    has-image (abs (r .state)) (m .valid .accepted) (subst FitsImage (sym (m .state-is)) (kept-fits call (abs s) (v .accepted) fit f))
 
 -- from new
 pub new-fits : FitsImage newState

@@ -4,7 +4,7 @@
 use mathlib.Core.Path.{_≡_, refl, sym, ap, subst, _∙_}
 use mathlib.Core.List.{List, [], _∷_, _++_, map, flatten, append-assoc}
 use Prim.Native.Nat.{ℕ, suc, _+_, _*_, _≤_, _<_, _^_}
-use native.Mathlib.Nat.{suc-inj, suc-ne-zero, mul-assoc, mul-le-mul-right, pow-succ', pow-le-pow-right, lt-of-lt-of-le}
+use native.Mathlib.Nat.{mul-assoc, mul-le-mul-right, pow-succ', pow-le-pow-right, lt-of-lt-of-le}
 use native.Mathlib.Omega.{arith}
 use lib.ListN.{length, take, drop, length-append, length-take, length-drop}
 use lib.Seq.{take-at, drop-append-seam, take-add, drop-drop}
@@ -91,22 +91,22 @@ number-small at width bytes h =
     omega (arith, bigEndian-small 0 (part at width bytes) (bytes-part at width bytes h), pow-le-pow-right {n = 256} (omega arith) short)
 
 -- numbers written behind other bytes, and read there
-pub numbersAt-behind : (front widths numbers : List ℕ) → length widths ≡ length numbers → Fit widths numbers →
+pub numbersAt-behind : (front widths numbers : List ℕ) → Fit widths numbers →
     numbersAt (length front) widths (front ++ written widths numbers) ≡ numbers
 unfolding Fit
-numbersAt-behind front [] [] e fit = refl
-numbersAt-behind front [] (x ∷ numbers) e fit = absurd (suc-ne-zero _ (sym e))
-numbersAt-behind front (width ∷ widths) [] e fit = absurd (suc-ne-zero _ e)
-numbersAt-behind front (width ∷ widths) (x ∷ numbers) e fit =
+numbersAt-behind front [] [] fit = refl
+numbersAt-behind front [] (x ∷ numbers) fit = absurd fit
+numbersAt-behind front (width ∷ widths) [] fit = absurd fit
+numbersAt-behind front (width ∷ widths) (x ∷ numbers) fit =
     let bytes = bytesOf width x in
     let rest = written widths numbers in
     let long = length-bytesOf width x in
     let first = ap bigEndian (part-behind front bytes rest long) ∙ bigEndian-bytesOf width x (fit .0) in
-    let others = past-piece (λ at l. numbersAt at widths l) front bytes rest long ∙ numbersAt-behind (front ++ bytes) widths numbers (suc-inj e) (fit .1) in
+    let others = past-piece (λ at l. numbersAt at widths l) front bytes rest long ∙ numbersAt-behind (front ++ bytes) widths numbers (fit .1) in
     λ i. first i ∷ others i
 
 -- numbers written, and read back
-pub numbersAt-written : (widths numbers : List ℕ) → length widths ≡ length numbers → Fit widths numbers → numbersAt 0 widths (written widths numbers) ≡ numbers
+pub numbersAt-written : (widths numbers : List ℕ) → Fit widths numbers → numbersAt 0 widths (written widths numbers) ≡ numbers
 numbersAt-written = numbersAt-behind []
 
 -- numbers read, and written again

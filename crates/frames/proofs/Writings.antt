@@ -22,7 +22,7 @@ use Rattle.scheduler.specs.State.{State, Queues, ofBand}
 use Rattle.scheduler.proofs.Stored.{ring-of, entries-of}
 use Rattle.frames.specs.Answer.{recordBytes}
 use Rattle.frames.specs.Bytes.{bytesOf}
-use Rattle.frames.specs.Image.{imageLength, recordsBytes, queueBytes, queuesBytes, imageOf}
+use Rattle.frames.specs.Image.{recordLength, queueLength, queuesPlace, holdersPlace, microsPlace, imageLength, recordsBytes, queueBytes, queuesBytes, imageOf}
 use Rattle.frames.specs.Fits.{HasImage}
 use Rattle.frames.specs.ImageParts.{Short, WritesImage}
 use Rattle.frames.proofs.Images.{length-recordsBytes, length-queueBytes, length-imageOf}
@@ -34,20 +34,20 @@ use Rattle.frames.proofs.Stores.{sets-append, sets-all}
 
 -- one more record, and what is left of them behind it
 pub records-on : (o : List ℕ) {now : List ℕ} (tasks : List TaskControlBlock) (slot : ℕ) (d : TaskControlBlock) → slot < length tasks
-    → now ≡ sets o (47 * slot) (recordBytes (getD tasks slot d))
-    → sets now (47 * (slot + 1)) (recordsBytes (drop (slot + 1) tasks)) ≡ sets o (47 * slot) (recordsBytes (drop slot tasks))
+    → now ≡ sets o (recordLength * slot) (recordBytes (getD tasks slot d))
+    → sets now (recordLength * (slot + 1)) (recordsBytes (drop (slot + 1) tasks)) ≡ sets o (recordLength * slot) (recordsBytes (drop slot tasks))
 unfolding recordsBytes
 records-on o tasks slot d h e =
     let t = getD tasks slot d in
-    let next : 47 * (slot + 1) ≡ 47 * slot + length (recordBytes t) = omega (arith, length-recordBytes t) in
+    let next : recordLength * (slot + 1) ≡ recordLength * slot + length (recordBytes t) = omega (arith, length-recordBytes t) in
     (λ i. sets (e i) (next i) (recordsBytes (drop (add-one slot i) tasks)))
-    ∙ sym (sets-append o (47 * slot) (recordBytes t) (recordsBytes (drop (suc slot) tasks)))
-    ∙ ap (λ ts. sets o (47 * slot) (recordsBytes ts)) (sym (drop-cons tasks slot d h))
+    ∙ sym (sets-append o (recordLength * slot) (recordBytes t) (recordsBytes (drop (suc slot) tasks)))
+    ∙ ap (λ ts. sets o (recordLength * slot) (recordsBytes ts)) (sym (drop-cons tasks slot d h))
 
 -- none is left
-pub records-end : (o : List ℕ) (tasks : List TaskControlBlock) (slot : ℕ) → length tasks ≤ slot → o ≡ sets o (47 * slot) (recordsBytes (drop slot tasks))
+pub records-end : (o : List ℕ) (tasks : List TaskControlBlock) (slot : ℕ) → length tasks ≤ slot → o ≡ sets o (recordLength * slot) (recordsBytes (drop slot tasks))
 unfolding recordsBytes
-records-end o tasks slot h = ap (λ ts. sets o (47 * slot) (recordsBytes ts)) (sym (drop-of-length-le tasks h))
+records-end o tasks slot h = ap (λ ts. sets o (recordLength * slot) (recordsBytes ts)) (sym (drop-of-length-le tasks h))
 
 -- ---- the queues
 
@@ -64,7 +64,7 @@ queue-put es short o {o₁} at e₁ x e₂ p =
     run o at 1 (at + 1) (places es) e₁ x refl (e₂ ∙ ap (sets o₁ (at + 1)) p)
     ∙ ap (λ front. sets o at (front ++ places es)) (one-byte (length es) (omega (arith, short)))
 
-pub length-queuesBytes : (q : Queues) → Short q → length (queuesBytes q) ≡ 195
+pub length-queuesBytes : (q : Queues) → Short q → length (queuesBytes q) ≡ 3 * queueLength
 unfolding queuesBytes
 length-queuesBytes q short =
     let first = queueBytes (q .interactive) in
@@ -80,15 +80,15 @@ length-queuesBytes q short =
 
 -- the first band's, the second's behind it, the third's behind both
 queues-behind : (q : Queues) → Short q → (o : List ℕ) {o₁ o₂ o₃ : List ℕ} (at : ℕ) → o₁ ≡ sets o at (queueBytes (q .interactive))
-    → o₂ ≡ sets o₁ (at + 65) (queueBytes (q .realTime)) → o₃ ≡ sets o₂ (at + 130) (queueBytes (q .background)) → o₃ ≡ sets o at (queuesBytes q)
+    → o₂ ≡ sets o₁ (at + queueLength) (queueBytes (q .realTime)) → o₃ ≡ sets o₂ (at + 2 * queueLength) (queueBytes (q .background)) → o₃ ≡ sets o at (queuesBytes q)
 unfolding queuesBytes
 queues-behind q short o at e₁ e₂ e₃ =
     let first = queueBytes (q .interactive) in
     let second = queueBytes (q .realTime) in
     let n₁ = length-queueBytes (q .interactive) (short UserInteractive) in
     let n₂ = length-queueBytes (q .realTime) (short RealTimeIO) in
-    behind o at (at + 130) (first ++ second) (queueBytes (q .background))
-    (behind o at (at + 65) first second e₁ (ap (λ (n : ℕ). at + n) (sym n₁)) e₂)
+    behind o at (at + 2 * queueLength) (first ++ second) (queueBytes (q .background))
+    (behind o at (at + queueLength) first second e₁ (ap (λ (n : ℕ). at + n) (sym n₁)) e₂)
     (omega (arith, n₁, n₂, length-append first second)) e₃
 
 module _ (qs : List BandQueue) (w : Whole qs) (short : Short (queuesOf qs)) where
@@ -97,12 +97,12 @@ module _ (qs : List BandQueue) (w : Whole qs) (short : Short (queuesOf qs)) wher
   queue-fits b d = (ring-of qs w b d, rw (entries-of qs w b d) (short b))
 
   pub queues-put : (o : List ℕ) {o₁ o₂ o₃ : List ℕ} (at : ℕ) (d : BandQueue) → o₁ ≡ sets o at (queueBytes (entries (getD qs 0 d)))
-      → o₂ ≡ sets o₁ (at + 65) (queueBytes (entries (getD qs 1 d))) → o₃ ≡ sets o₂ (at + 130) (queueBytes (entries (getD qs 2 d)))
+      → o₂ ≡ sets o₁ (at + queueLength) (queueBytes (entries (getD qs 1 d))) → o₃ ≡ sets o₂ (at + 2 * queueLength) (queueBytes (entries (getD qs 2 d)))
       → o₃ ≡ sets o at (queuesBytes (queuesOf qs))
   queues-put o {o₁} {o₂} at d e₁ e₂ e₃ =
       let same : (b : QoSClass) (out : List ℕ) (n : ℕ) → sets out n (queueBytes (entries (getD qs (bandCode b) d))) ≡ sets out n (queueBytes (ofBand (queuesOf qs) b)) =
       λ b out n. ap (λ es. sets out n (queueBytes es)) (entries-of qs w b d) in
-      queues-behind (queuesOf qs) short o at (e₁ ∙ same UserInteractive o at) (e₂ ∙ same RealTimeIO o₁ (at + 65)) (e₃ ∙ same Background o₂ (at + 130))
+      queues-behind (queuesOf qs) short o at (e₁ ∙ same UserInteractive o at) (e₂ ∙ same RealTimeIO o₁ (at + queueLength)) (e₃ ∙ same Background o₂ (at + 2 * queueLength))
 
 -- ---- the image
 
@@ -113,17 +113,17 @@ module _ (s : QoSScheduler) (v : Valid s) where
 
   -- records, queues, holders, microseconds, over a buffer that they fill
   pub image-put : (o : List ℕ) {o₁ o₂ o₃ o₄ : List ℕ} → length o ≡ imageLength → o₁ ≡ sets o 0 (recordsBytes (s .tasks))
-      → o₂ ≡ sets o₁ 3008 (queuesBytes (queuesOf (s .queues))) → o₃ ≡ sets o₂ 3203 (s .current) → o₄ ≡ sets o₃ 3267 (bytesOf 8 (s .«system_ticks_us»))
+      → o₂ ≡ sets o₁ queuesPlace (queuesBytes (queuesOf (s .queues))) → o₃ ≡ sets o₂ holdersPlace (s .current) → o₄ ≡ sets o₃ microsPlace (bytesOf 8 (s .«system_ticks_us»))
       → o₄ ≡ imageOf (abs s)
   unfolding imageOf abs
   image-put o long e₁ e₂ e₃ e₄ =
       let records = recordsBytes (s .tasks) in
       let queues = queuesBytes (queuesOf (s .queues)) in
-      let n₁ : length records ≡ 3008 = length-recordsBytes (s .tasks) ∙ omega (arith, v .accepted .slots) in
-      let n₂ : length queues ≡ 195 = length-queuesBytes (queuesOf (s .queues)) queues-short in
-      let behind-records = behind o 0 3008 records queues e₁ (omega (arith, n₁)) e₂ in
-      let behind-queues = behind o 0 3203 (records ++ queues) (s .current) behind-records (omega (arith, n₁, n₂, length-append records queues)) e₃ in
-      behind o 0 3267 (records ++ queues ++ s .current) (bytesOf 8 (s .«system_ticks_us»)) behind-queues
+      let n₁ : length records ≡ queuesPlace = length-recordsBytes (s .tasks) ∙ omega (arith, v .accepted .slots) in
+      let n₂ : length queues ≡ 3 * queueLength = length-queuesBytes (queuesOf (s .queues)) queues-short in
+      let behind-records = behind o 0 queuesPlace records queues e₁ (omega (arith, n₁)) e₂ in
+      let behind-queues = behind o 0 holdersPlace (records ++ queues) (s .current) behind-records (omega (arith, n₁, n₂, length-append records queues)) e₃ in
+      behind o 0 microsPlace (records ++ queues ++ s .current) (bytesOf 8 (s .«system_ticks_us»)) behind-queues
       (omega (arith, n₁, n₂, v .accepted .cores, length-append records queues, length-append (records ++ queues) (s .current))) e₄
       ∙ sets-all o _ (length-imageOf (abs s) (v .accepted) ∙ sym long)
 

@@ -43,10 +43,11 @@ abbrev pub numbersAt : ℕ → List ℕ → List ℕ → List ℕ
 numbersAt at [] bytes = []
 numbersAt at (width ∷ widths) bytes = numberAt at width bytes ∷ numbersAt (at + width) widths bytes
 
--- each number fits its width
+-- there is a number for each width, and it fits
 unfoldable pub Fit : List ℕ → List ℕ → Type 0
-Fit [] numbers = Unit
-Fit (width ∷ widths) [] = Unit
+Fit [] [] = Unit
+Fit [] (x ∷ numbers) = ⊥
+Fit (width ∷ widths) [] = ⊥
 Fit (width ∷ widths) (x ∷ numbers) = (x < 256 ^ width) × Fit widths numbers
 
 -- how many bytes they take

@@ -126,7 +126,11 @@ stateAt image = record {
 
 -- ---- sizes
 
+-- a record whose numbers fit their fields
+abbrev pub RecordFits : TaskControlBlock → Type 0
+RecordFits t = Fit recordWidths (recordNumbers t)
+
 -- a state whose numbers fit the fields of an image: those of the records, and the microseconds; acceptance bounds all others
 pub record FitsImage (s : State) : Type 0 where
-  pub records : Each (λ (t : TaskControlBlock). Fit recordWidths (recordNumbers t)) (s .tasks)
+  pub records : Each RecordFits (s .tasks)
   pub micros : s .micros < 256 ^ 8

@@ -24,11 +24,10 @@ use crate::layout::RECORD_BYTES;
 use records::MAX_CPUS;
 use records::MAX_TASKS;
 use records::QoSClass;
+use scheduler::NO_HOLDER;
 
-// What stands for none in a core's holder.
-const NO_HOLDER: u8 = 255;
-
-// Whether the bytes are an image that is accepted: of any bytes, of any number.
+// Whether the bytes are an image that is accepted: of any bytes, of any number. `acceptsImage` is shown to say what document
+// 01's conditions say (`accepts-image`, proofs/AcceptedImages.antt).
 pub fn accepts_image(image: &[u8]) -> bool
     ensures { λ r. ⌜ r ≡ acceptsImage (now (image .entry)) ⌝ }
 {
@@ -189,7 +188,7 @@ fn ready_stand_once(image: &[u8]) -> bool
     true
 }
 
-// The counts, and one more for each entry of the band's queue.
+// The counts, and one more for each entry of the band's queue. At most two queues of 64 entries were counted before.
 fn counted(image: &[u8], band: QoSClass, mut counts: [u8; MAX_TASKS]) -> [u8; MAX_TASKS]
     requires { ⌜ length (now image) ≡ imageLength ⌝ }
     requires { ⌜ lengthByte (queueAt band (now image)) ≤ 64 ⌝ }

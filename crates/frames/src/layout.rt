@@ -1,5 +1,4 @@
-// The table of document 01's record and image: where each part begins, and how long it is. Nothing else in the code names
-// one of these numbers.
+// The table of document 01's record and image: where each part begins, and how long it is.
 use records::BAND_COUNT;
 use records::MAX_CPUS;
 use records::MAX_TASKS;

@@ -1,17 +1,17 @@
--- Laws of a queue's rules on its list of entries: a push, the entry at a place, taking it, removal. Assumes nothing.
+-- Laws of a queue's rules on its list of entries: a push, the entry at a place, taking it, removal, the 64 places. Assumes nothing.
 use mathlib.Core.Path.{_≡_, refl, ap}
 use mathlib.Core.Bool.{Bool, true, false, cond, not, _&&_}
 use mathlib.Core.List.{List, [], _∷_, _++_}
-use Prim.Native.Nat.{ℕ, suc, _≤_, _<_}
+use Prim.Native.Nat.{ℕ, suc, _-_, _≤_, _<_}
 use native.Mathlib.Omega.{arith}
 use borrow.Author.Tests.{lt-ltb, le-ltb, eq-eqb, ne-eqb, ltb-true, ltb-false}
 use lib.Dec.{ltb}
-use lib.ListN.{length, getD, drop, drop-of-length-le}
+use lib.ListN.{length, getD, drop, replicate, length-append, length-replicate, drop-of-length-le}
 use lib.Seq.{take-all, take-append-seam}
 use Rattle.records.specs.declared.ids.Slot.{Slot}
 use Rattle.records.specs.declared.ids.SlotOption.the-variants.{None, Some}
 use Rattle.records.proofs.Cases.{split}
-use Rattle.queue.specs.Rules.{full, takes, pushed, without, entryAt, takenAt}
+use Rattle.queue.specs.Rules.{full, takes, pushed, without, entryAt, takenAt, places}
 
 -- ---- a push
 
@@ -76,3 +76,9 @@ without-same slot e es is = rw (eq-eqb e slot is)
 pub without-other : (slot e : ℕ) (es : List ℕ) → (e ≡ slot → ⊥) → without slot (e ∷ es) ≡ e ∷ without slot es
 unfolding without
 without-other slot e es is = rw (ne-eqb e slot is)
+
+-- ---- the 64 places
+
+pub length-places : (es : List ℕ) → length es ≤ 64 → length (places es) ≡ 64
+unfolding places
+length-places es small = omega (arith, length-append es (replicate (64 - length es) 0), length-replicate {A = ℕ} (64 - length es) 0)

@@ -4,10 +4,12 @@ use mathlib.Core.Path.{_≡_, ap, _∙_}
 use mathlib.Core.List.{List, _++_}
 use Prim.Native.Nat.{ℕ, _+_, _-_, _%_, _≤_, _<_}
 use native.Mathlib.Omega.{arith}
-use lib.ListN.{length, getD, replicate, length-append, length-replicate, List·getD-append}
+use lib.ListN.{length, getD, replicate, List·getD-append}
 use lib.Seq.{ext-getD}
 use Rattle.queue.specs.declared.BandQueue.{BandQueue}
 use Rattle.queue.specs.Stored.{window, entries, Holds}
+use Rattle.queue.specs.Rules.{places}
+use Rattle.queue.proofs.Rules.{length-places}
 use Rattle.queue.proofs.Ring.{length-window, window-at}
 
 -- what stands at the front of a list is the window there
@@ -20,19 +22,12 @@ window-front-part es pad small =
     let place : (0 + i) % 64 ≡ i = omega arith in
     window-at ring 0 (length es) i low ∙ ap (λ (p : ℕ). getD ring p 0) place ∙ List·getD-append es pad 0 i low)
 
--- 64 places: the entries, and zeros behind them
-abbrev padded : List ℕ → List ℕ
-padded es = es ++ replicate (64 - length es) 0
-
-length-padded : (es : List ℕ) → length es ≤ 64 → length (padded es) ≡ 64
-length-padded es small = omega (arith, length-append es (replicate (64 - length es) 0), length-replicate {A = ℕ} (64 - length es) 0)
-
 pub stored : (es : List ℕ) → length es ≤ 64 → (q : BandQueue) × Holds q es
-unfolding entries
+unfolding entries places
 stored es small = (
-  record { ring = padded es; head = 0; len = length es },
+  record { ring = places es; head = 0; len = length es },
   record {
-    well-formed = record { whole = length-padded es small; head-in = omega arith; len-in = small };
+    well-formed = record { whole = length-places es small; head-in = omega arith; len-in = small };
     entries-are = window-front-part es (replicate (64 - length es) 0) small;
   },
 )

@@ -31,5 +31,6 @@ pub use answer::Status;
 pub use answer::TaskOption;
 pub use answer::Value;
 pub use call::Call;
+pub use scheduler::NO_HOLDER;
 pub use scheduler::QoSScheduler;
 pub use scheduler::Reply;

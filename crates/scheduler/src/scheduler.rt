@@ -16,7 +16,7 @@ use records::SlotOption;
 use records::TaskControlBlock;
 
 // What stands for none in a core's holder.
-pub(crate) const NO_HOLDER: u8 = 255;
+pub const NO_HOLDER: u8 = 255;
 
 pub struct QoSScheduler {
     // A record for each slot.

@@ -2,6 +2,7 @@
 use native.Mathlib.Omega.{arith}
 use borrow.Author.Needs.{needs}
 use Rattle.records.specs.declared.band.QoSClass.the-variants.{UserInteractive, RealTimeIO, Background}
+use Rattle.frames.specs.Image.{queuesPlace}
 use Rattle.frames.proofs.Writings.{queue-fits, queues-put}
 use Rattle.frames.proofs.image.put_queues.Statement.{statement}
 use Rattle.frames.proofs.image.put_queues.Tie as tie
@@ -30,7 +31,7 @@ returns c =
     let second = third .before .before .before .before .before in
     let first = second .before .before .before .before .before in
     let pre = first .before .before .before .before .pre in
-    queues-put _ (pre .0) (pre .1) _ 3008 _ (first .put-queue .ensures) (second .put-queue2 .ensures) (third .put-queue3 .ensures)
+    queues-put _ (pre .0) (pre .1) _ queuesPlace _ (first .put-queue .ensures) (second .put-queue2 .ensures) (third .put-queue3 .ensures)
 
 pub put-queues-spec : {M : Type 1} → statement M
 put-queues-spec =

@@ -6,13 +6,13 @@ use native.Mathlib.Omega.{arith}
 use borrow.Author.Needs.{needs}
 use lib.ListN.{length, drop}
 use lib.Seq.{sets, length-sets}
-use Rattle.frames.specs.Image.{recordsBytes}
+use Rattle.frames.specs.Image.{recordLength, recordsBytes}
 use Rattle.frames.proofs.Writings.{records-on, records-end}
 use Rattle.frames.proofs.image.put_records.Statement.{statement}
 use Rattle.frames.proofs.image.put_records.Tie as tie
 
 abbrev Inv-loop : tie.InvT-loop
-Inv-loop out₀ tasks slot₀ out slot = sets out (47 * slot) (recordsBytes (drop slot tasks)) ≡ sets out₀ 0 (recordsBytes tasks)
+Inv-loop out₀ tasks slot₀ out slot = sets out (recordLength * slot) (recordsBytes (drop slot tasks)) ≡ sets out₀ 0 (recordsBytes tasks)
 
 abbrev μ-loop : tie.MeasureT-loop
 μ-loop out₀ tasks slot₀ out slot = 64 - slot
