@@ -27,7 +27,7 @@ recordLength = total recordWidths
 abbrev pub queueLength : ℕ
 queueLength = 1 + 64
 
--- "64 records (3,008), three queues [..] (195), holders (64), system microseconds (8)"
+-- where each part begins, each behind the one before
 abbrev pub recordPlace : ℕ → ℕ
 recordPlace slot = recordLength * slot
 
@@ -49,6 +49,7 @@ imageLength = microsPlace + 8
 
 -- ---- the bytes of a state
 
+-- records, one behind the other
 unfoldable pub recordsBytes : List TaskControlBlock → List ℕ
 recordsBytes [] = []
 recordsBytes (t ∷ tasks) = recordBytes t ++ recordsBytes tasks
@@ -57,9 +58,11 @@ recordsBytes (t ∷ tasks) = recordBytes t ++ recordsBytes tasks
 unfoldable pub queueBytes : List ℕ → List ℕ
 queueBytes es = length es ∷ places es
 
+-- "three queues", in the order of the bands
 unfoldable pub queuesBytes : Queues → List ℕ
 queuesBytes q = queueBytes (q .interactive) ++ queueBytes (q .realTime) ++ queueBytes (q .background)
 
+-- "64 records (3,008), three queues [..] (195), holders (64), system microseconds (8)"
 unfoldable pub imageOf : State → List ℕ
 imageOf s = recordsBytes (s .tasks) ++ queuesBytes (s .queues) ++ s .holders ++ bytesOf 8 (s .micros)
 
@@ -112,6 +115,7 @@ slotByte place bytes = getD bytes (suc place) 0
 abbrev pub queueIn : List ℕ → List ℕ
 queueIn bytes = part 1 (lengthByte bytes) bytes
 
+-- the same parts, read
 unfoldable pub stateAt : List ℕ → State
 stateAt image = record {
   tasks = recordsIn 64 image;

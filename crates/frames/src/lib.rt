@@ -11,9 +11,9 @@
 //   image    a scheduler's image, written into a lent buffer
 //   accept   whether bytes are an image that is accepted
 //
-// Nothing is presumed of any bytes: what is no frame is refused with 9. Each function promises its whole result and the
-// whole contents of the buffers that it is lent, as equal to definitions on lists of bytes in specs/; proofs/ has the
-// laws of those definitions.
+// Nothing is presumed of any bytes: what is no frame is refused with 9, and what is no image is not accepted. Each function
+// promises its whole result and the whole contents of the buffers that it is lent, as equal to definitions on lists of
+// bytes in specs/; proofs/ has the laws of those definitions.
 mod accept;
 mod blocks;
 mod bytes;
