@@ -12,12 +12,12 @@ use lib.Seq.{take-all, take-at, drop-at, take-add, take-append-seam, drop-drop, 
 use Rattle.records.specs.declared.band.QoSClass.{QoSClass}
 use Rattle.records.specs.declared.band.QoSClass.the-variants.{UserInteractive, RealTimeIO, Background}
 use Rattle.records.specs.declared.state.ThreadState.{ThreadState}
-use Rattle.records.specs.declared.state.ThreadState.the-variants.{Ready, Running, Blocked, Terminated}
 use Rattle.records.specs.declared.task.TaskControlBlock.{TaskControlBlock}
 use Rattle.records.specs.Band.{bandCode}
 use Rattle.records.specs.State.{stateCode}
 use Rattle.records.specs.Task.{emptyRecord}
-use Rattle.records.proofs.Bands.{bandCode-small}
+use Rattle.records.proofs.Bands.{bandCode-small, codedBand-code}
+use Rattle.records.proofs.States.{codedState-code}
 use Rattle.queue.specs.Rules.{places}
 use Rattle.queue.proofs.Rules.{length-places}
 use Rattle.scheduler.specs.Accepted.{Each, Accepted}
@@ -27,7 +27,7 @@ use Rattle.frames.specs.AcceptedImage.{AcceptedImage, bandByte, stateByt
 use Rattle.frames.specs.Answer.{recordWidths, recordBytes}
 use Rattle.frames.specs.Bytes.{AllBytes, bytesOf, bigEndian, part, numberAt, total}
 use Rattle.frames.specs.Image.{recordLength, queueLength, recordPlace, queuesPlace, queuePlace, holdersPlace, microsPlace, imageLength}
-use Rattle.frames.specs.Image.{recordsBytes, queueBytes, queuesBytes, imageOf, bandOf, stateOf, recordOf, recordIn, recordsIn, recordAt, queueAt, lengthByte, slotByte, queueIn, stateAt, FitsImage, RecordFits}
+use Rattle.frames.specs.Image.{recordsBytes, queueBytes, queuesBytes, imageOf, orEmptyBand, bandOf, orEmptyState, stateOf, recordOf, recordIn, recordsIn, recordAt, queueAt, lengthByte, slotByte, queueIn, stateAt, FitsImage, RecordFits}
 use Rattle.frames.proofs.Numbers.{length-bytesOf, bigEndian-bytesOf}
 use Rattle.frames.proofs.Sizes.{length-recordBytes}
 use Rattle.frames.proofs.Widths.{length-part, bytes-part, piecesAt, pieces-flatten, flatten-pieces, length-flatten, bytesOf-numberAt, numbersAt-written, written-numbersAt}
@@ -42,9 +42,7 @@ sizes = (refl, refl, refl, refl)
 
 -- a band, a state, a flag: read from its code, and a code that is read
 pub bandOf-code : (band : QoSClass) → bandOf (bandCode band) ≡ band
-bandOf-code UserInteractive = refl
-bandOf-code RealTimeIO = refl
-bandOf-code Background = refl
+bandOf-code band = ap orEmptyBand (codedBand-code band)
 
 pub bandCode-of : (code : ℕ) → code < 3 → bandCode (bandOf code) ≡ code
 bandCode-of zero h = refl
@@ -53,10 +51,7 @@ bandCode-of (suc (suc zero)) h = refl
 bandCode-of (suc (suc (suc code))) h = absurd (omega (arith, h))
 
 pub stateOf-code : (state : ThreadState) → stateOf (stateCode state) ≡ state
-stateOf-code Ready = refl
-stateOf-code Running = refl
-stateOf-code Blocked = refl
-stateOf-code Terminated = refl
+stateOf-code state = ap orEmptyState (codedState-code state)
 
 pub stateCode-of : (code : ℕ) → code < 4 → stateCode (stateOf code) ≡ code
 stateCode-of zero h = refl

@@ -18,7 +18,7 @@ use Rattle.records.specs.declared.ids.SlotOption.the-variants as slot
 use Rattle.records.specs.declared.state.ThreadState.{ThreadState}
 use Rattle.records.specs.declared.state.ThreadState.the-variants.{Ready, Running, Blocked, Terminated}
 use Rattle.records.specs.declared.task.TaskControlBlock.{TaskControlBlock}
-use Rattle.records.specs.Band.{bandCode, bandAt, slice}
+use Rattle.records.specs.Band.{bandCode, codedBand, slice}
 use Rattle.records.specs.Mask.{storedMask}
 use Rattle.records.specs.State.{stateCode, isState}
 use Rattle.records.specs.Task.{emptyRecord, created, withState, withMask, withConsumed, terminated, blocked, picked}
@@ -278,7 +278,7 @@ module _ (frame : List ℕ) (h : AllBytes frame) where
   -- the table of calls
   table-fits : Each ReadFits (callsIn frame)
   unfolding Each
-  table-fits = (create-fits (bandAt (numberAt 5 1 frame)), (number-small 9 8 frame h, (tt, (tt, (tt, (tt, (tt, (tt, (tt, (tt, (tt, (tt, (tt, (tt, (tt, (tt, (tt, tt)))))))))))))))))
+  table-fits = (create-fits (codedBand (numberAt 5 1 frame)), (number-small 9 8 frame h, (tt, (tt, (tt, (tt, (tt, (tt, (tt, (tt, (tt, (tt, (tt, (tt, (tt, (tt, (tt, tt)))))))))))))))))
 
 read-fits : (frame : List ℕ) → AllBytes frame → ReadFits (frameCall frame)
 unfolding frameCall

@@ -3,61 +3,33 @@
 use mathlib.Core.Path.{_≡_, refl, sym, ap, _∙_}
 use mathlib.Core.Bool.{Bool, true, false, not, _&&_, _||_, Bool·beq, and-false}
 use mathlib.Core.List.{List}
-use Prim.Native.Nat.{ℕ, zero, suc, _≤_, _<_}
+use Prim.Native.Nat.{ℕ, _≤_, _<_}
 use native.Mathlib.Omega.{arith}
-use borrow.Author.Tests.{not-true, not-false, lt-ltb, le-ltb, le-leb, eq-eqb, ne-eqb}
-use lib.Dec.{ltb, leb, eqb, eqb·suc-zero}
-use Rattle.records.specs.declared.band.QoSClass.the-variants.{Background}
-use Rattle.records.specs.declared.state.ThreadState.the-variants.{Ready, Terminated}
+use borrow.Author.Tests.{not-true, not-false, lt-ltb, le-ltb, eq-eqb, ne-eqb}
+use lib.Dec.{ltb, eqb}
+use Rattle.records.specs.declared.band.BandOption.{BandOption}
+use Rattle.records.specs.declared.state.StateOption.{StateOption}
+use Rattle.records.specs.declared.state.ThreadState.the-variants.{Terminated}
 use Rattle.records.specs.declared.task.TaskControlBlock.{TaskControlBlock}
-use Rattle.records.specs.Band.{slice}
-use Rattle.records.specs.State.{isState}
+use Rattle.records.specs.Band.{slice, codedBand}
+use Rattle.records.specs.State.{codedState, isState}
 use Rattle.scheduler.specs.Accepted.{recordFits, mayHold}
 use Rattle.frames.specs.Bytes.{numberAt, IsNumber}
-use Rattle.frames.specs.Image.{bandOf, stateOf, recordIn}
+use Rattle.frames.specs.Image.{orEmptyBand, bandOf, orEmptyState, stateOf, recordIn}
 use Rattle.frames.specs.AcceptedImage.{codesFit}
 use Rattle.frames.proofs.Passing.{fails, holds}
 
 -- ---- the numbers of a record
 
-ready-code : (n : ℕ) → eqb n 0 ≡ isState (stateOf n) Ready
-ready-code zero = refl
-ready-code (suc zero) = refl
-ready-code (suc (suc zero)) = refl
-ready-code (suc (suc (suc zero))) = refl
-ready-code (suc (suc (suc (suc n)))) = eqb·suc-zero (suc (suc (suc n)))
-
-terminated-code : (n : ℕ) → leb 3 n ≡ isState (stateOf n) Terminated
-terminated-code zero = refl
-terminated-code (suc zero) = refl
-terminated-code (suc (suc zero)) = refl
-terminated-code (suc (suc (suc zero))) = refl
-terminated-code (suc (suc (suc (suc n)))) = le-leb 3 (suc (suc (suc (suc n)))) (omega arith)
-
-background-code : (n : ℕ) → (n ≡ 0 → ⊥) → (n ≡ 1 → ⊥) → bandOf n ≡ Background
-background-code zero ne _ = absurd (ne refl)
-background-code (suc zero) _ ne = absurd (ne refl)
-background-code (suc (suc zero)) _ _ = refl
-background-code (suc (suc (suc n))) _ _ = refl
-
 module _ {bytes : List ℕ} {r : ℕ} where
-  band-is : IsNumber 4 1 bytes r → bandOf r ≡ recordIn bytes .qos
+  -- band and state, by what their code reads as
+  pub band-is : {b : BandOption} → IsNumber 4 1 bytes r → b ≡ codedBand r → orEmptyBand b ≡ recordIn bytes .qos
   unfolding recordIn
-  band-is n = ap bandOf (n .is)
+  band-is n e = ap orEmptyBand e ∙ ap bandOf (n .is)
 
-  pub band-code : (code : ℕ) → IsNumber 4 1 bytes r → r ≡ code → bandOf code ≡ recordIn bytes .qos
-  band-code code n e = sym (ap bandOf e) ∙ band-is n
-
-  pub band-rest : IsNumber 4 1 bytes r → (r ≡ 0 → ⊥) → (r ≡ 1 → ⊥) → Background ≡ recordIn bytes .qos
-  band-rest n not-0 not-1 = sym (background-code r not-0 not-1) ∙ band-is n
-
-  pub ready-is : IsNumber 5 1 bytes r → eqb r 0 ≡ isState (recordIn bytes .state) Ready
+  pub state-is : {s : StateOption} → IsNumber 5 1 bytes r → s ≡ codedState r → orEmptyState s ≡ recordIn bytes .state
   unfolding recordIn
-  ready-is n = rw (n .is) (ready-code (numberAt 5 1 bytes))
-
-  pub terminated-is : IsNumber 5 1 bytes r → leb 3 r ≡ isState (recordIn bytes .state) Terminated
-  unfolding recordIn
-  terminated-is n = rw (n .is) (terminated-code (numberAt 5 1 bytes))
+  state-is n e = ap orEmptyState e ∙ ap stateOf (n .is)
 
   mask-is : IsNumber 30 8 bytes r → r ≡ recordIn bytes .«cpu_affinity»
   unfolding recordIn

@@ -8,7 +8,7 @@ use Rattle.records.specs.declared.band.BandOption.{BandOption}
 use Rattle.records.specs.declared.band.BandOption.the-variants as band
 use Rattle.records.specs.declared.ids.Slot.{Slot}
 use Rattle.records.specs.declared.ids.Tid.{Tid}
-use Rattle.records.specs.Band.{bandAt}
+use Rattle.records.specs.Band.{codedBand}
 use Rattle.scheduler.specs.declared.call.Call.the-variants.{Create, Affinity, Terminate, Block, Wake, Enqueue, Schedule, Tick, Yield, Handoff, Plan, CanRunOnCore, TaskIndexForTid, Task, CurrentTaskOnCpu, SystemTicksUs, Holder}
 use Rattle.frames.specs.declared.decode.CallOption.{CallOption}
 use Rattle.frames.specs.declared.decode.CallOption.the-variants.{None, Some}
@@ -67,7 +67,7 @@ createIn (band.Some qos) frame = Some (Create (tidAt 1 frame) qos (numberAt 6 8 
 -- the calls that a frame could be, from 00 to 10, each argument behind the one before
 abbrev pub callsIn : List ℕ → List CallOption
 callsIn frame =
-    createIn (bandAt (numberAt 5 1 frame)) frame ∷
+    createIn (codedBand (numberAt 5 1 frame)) frame ∷
     Some (Affinity (slotAt 1 frame) (numberAt 9 8 frame)) ∷
     Some (Terminate (slotAt 1 frame)) ∷
     Some (Block (slotAt 1 frame)) ∷

@@ -4,16 +4,21 @@ use mathlib.Core.List.{List, [], _∷_, _++_}
 use Prim.Native.Nat.{ℕ, zero, suc, _+_, _*_, _<_, _^_}
 use lib.Dec.{eqb}
 use lib.ListN.{length, getD, take, drop}
+use Rattle.records.specs.declared.band.BandOption.{BandOption}
+use Rattle.records.specs.declared.band.BandOption.the-variants as band
 use Rattle.records.specs.declared.band.QoSClass.{QoSClass}
 use Rattle.records.specs.declared.band.QoSClass.the-variants.{UserInteractive, RealTimeIO, Background}
+use Rattle.records.specs.declared.state.StateOption.{StateOption}
+use Rattle.records.specs.declared.state.StateOption.the-variants as state
 use Rattle.records.specs.declared.state.ThreadState.{ThreadState}
-use Rattle.records.specs.declared.state.ThreadState.the-variants.{Ready, Running, Blocked, Terminated}
 use Rattle.records.specs.declared.task.TaskControlBlock.{TaskControlBlock}
-use Rattle.records.specs.Band.{bandCode}
+use Rattle.records.specs.Band.{bandCode, codedBand}
+use Rattle.records.specs.State.{codedState}
+use Rattle.records.specs.Task.{emptyRecord}
 use Rattle.queue.specs.Rules.{places}
 use Rattle.scheduler.specs.Accepted.{Each}
 use Rattle.scheduler.specs.Paper.{recordNumbers}
-use Rattle.scheduler.specs.State.{State, Queues, bandOrder}
+use Rattle.scheduler.specs.State.{State, Queues}
 use Rattle.frames.specs.Answer.{recordWidths, recordBytes}
 use Rattle.frames.specs.Bytes.{bytesOf, part, numberAt, numbersAt, total, Fit}
 
@@ -69,11 +74,19 @@ imageOf s = recordsBytes (s .tasks) ++ queuesBytes (s .queues) ++ s .holders ++ 
 -- ---- the state of bytes
 
 -- a band or state by its code; a byte that is no code reads as the empty record's
+abbrev pub orEmptyBand : BandOption → QoSClass
+orEmptyBand band.None = emptyRecord .qos
+orEmptyBand (band.Some q) = q
+
 abbrev pub bandOf : ℕ → QoSClass
-bandOf code = getD bandOrder code Background
+bandOf code = orEmptyBand (codedBand code)
+
+abbrev pub orEmptyState : StateOption → ThreadState
+orEmptyState state.None = emptyRecord .state
+orEmptyState (state.Some s) = s
 
 abbrev pub stateOf : ℕ → ThreadState
-stateOf code = getD (Ready ∷ Running ∷ Blocked ∷ Terminated ∷ []) code Terminated
+stateOf code = orEmptyState (codedState code)
 
 -- a record from its ten numbers, which stand in the paper's order
 abbrev pub recordOf : List ℕ → TaskControlBlock

@@ -4,7 +4,7 @@ ghost use Prim.Native.Nat.{_+_, _^_, _<_};
 ghost use lib.ListN.{getD};
 ghost use Rattle.frames.specs.Frame.{frameCall, callsIn, createIn, slotAt};
 ghost use Rattle.frames.specs.Bytes.{numberAt};
-ghost use Rattle.records.specs.Band.{bandAt};
+ghost use Rattle.records.specs.Band.{codedBand};
 use crate::bytes::number;
 use records::BandOption;
 use records::QoSClass;
@@ -83,7 +83,7 @@ fn call_in(frame: &[u8], call: u8) -> CallOption
 
 // The arguments of create; a band above 2 makes it no frame.
 fn create_in(frame: &[u8]) -> CallOption
-    ensures { λ r. ⌜ r ≡ createIn (bandAt (numberAt 5 1 (now (frame .entry)))) (now (frame .entry)) ⌝ }
+    ensures { λ r. ⌜ r ≡ createIn (codedBand (numberAt 5 1 (now (frame .entry)))) (now (frame .entry)) ⌝ }
 {
     let BandOption::Some(qos) = QoSClass::from_code(number(frame, 5, 1) as u8) else {
         return CallOption::None;

@@ -17,13 +17,11 @@ use crate::layout::CONSUMED_AT;
 use crate::layout::IN_USE_AT;
 use crate::layout::MASK_AT;
 use crate::layout::STATE_AT;
+use records::BandOption;
 use records::QoSClass;
+use records::StateOption;
+use records::ThreadState;
 use records::band_slice_us;
-
-// The codes of Ready and Terminated.
-const READY: u64 = 0;
-
-const TERMINATED: u64 = 3;
 
 // What is asked of a record alone: its codes, in use exactly where it is not Terminated, a mask that is not 0, a budget
 // of 0 or the slice, and less consumed than the slice.
@@ -53,7 +51,7 @@ fn codes_fit(bytes: &[u8]) -> bool
     if number(bytes, BAND_AT, 1) > 2 {
         return false;
     }
-    if number(bytes, STATE_AT, 1) > TERMINATED {
+    if number(bytes, STATE_AT, 1) > 3 {
         return false;
     }
     number(bytes, IN_USE_AT, 1) < 2
@@ -66,28 +64,37 @@ fn is_in_use(bytes: &[u8]) -> bool
     number(bytes, IN_USE_AT, 1) == 1
 }
 
-// Only the code of Ready reads as Ready.
+// Whether the state is Ready.
 pub(crate) fn is_ready(bytes: &[u8]) -> bool
     ensures { λ r. ⌜ r ≡ isState (recordIn (now (bytes .entry)) .state) Ready ⌝ }
 {
-    number(bytes, STATE_AT, 1) == READY
+    state_in(bytes).is(ThreadState::Ready)
 }
 
-// A byte that is no code reads as Terminated.
+// Whether the state is Terminated.
 fn is_terminated(bytes: &[u8]) -> bool
     ensures { λ r. ⌜ r ≡ isState (recordIn (now (bytes .entry)) .state) Terminated ⌝ }
 {
-    TERMINATED <= number(bytes, STATE_AT, 1)
+    state_in(bytes).is(ThreadState::Terminated)
+}
+
+// A byte that is no code reads as Terminated.
+fn state_in(bytes: &[u8]) -> ThreadState
+    ensures { λ r. ⌜ r ≡ recordIn (now (bytes .entry)) .state ⌝ }
+{
+    match ThreadState::from_code(number(bytes, STATE_AT, 1) as u8) {
+        StateOption::Some(state) => state,
+        StateOption::None => ThreadState::Terminated,
+    }
 }
 
 // A byte that is no code reads as Background.
 pub(crate) fn band_in(bytes: &[u8]) -> QoSClass
     ensures { λ r. ⌜ r ≡ recordIn (now (bytes .entry)) .qos ⌝ }
 {
-    match number(bytes, BAND_AT, 1) {
-        0 => QoSClass::UserInteractive,
-        1 => QoSClass::RealTimeIO,
-        _ => QoSClass::Background,
+    match QoSClass::from_code(number(bytes, BAND_AT, 1) as u8) {
+        BandOption::Some(qos) => qos,
+        BandOption::None => QoSClass::Background,
     }
 }
 

@@ -18,8 +18,8 @@ bandCode Background = 2
 abbrev pub bands : List BandOption
 bands = Some UserInteractive ∷ Some RealTimeIO ∷ Some Background ∷ []
 
-abbrev pub bandAt : ℕ → BandOption
-bandAt n = getD bands n None
+abbrev pub codedBand : ℕ → BandOption
+codedBand n = getD bands n None
 
 -- r is the band's code, and so a place among three queues
 pub record IsBandCode (q : QoSClass) (r : ℕ) : Type 0 where

@@ -20,8 +20,8 @@ stateCode Terminated = 3
 abbrev pub states : List StateOption
 states = Some Ready ∷ Some Running ∷ Some Blocked ∷ Some Terminated ∷ []
 
-abbrev pub stateAt : ℕ → StateOption
-stateAt n = getD states n None
+abbrev pub codedState : ℕ → StateOption
+codedState n = getD states n None
 
 -- the two are one state: they have one code
 abbrev pub isState : ThreadState → ThreadState → Bool

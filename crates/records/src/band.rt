@@ -1,6 +1,6 @@
 // The three bands, most urgent first, with their codes and their slices.
 ghost use mathlib.Core.Path.{_≡_};
-ghost use Rattle.records.specs.Band.{IsBandCode, bandAt, slice};
+ghost use Rattle.records.specs.Band.{IsBandCode, codedBand, slice};
 
 pub enum QoSClass {
     UserInteractive,
@@ -28,7 +28,7 @@ impl QoSClass {
 
     // The band that has this code, or None for 3 and above.
     pub fn from_code(code: u8) -> BandOption
-        ensures { λ r. ⌜ r ≡ bandAt code ⌝ }
+        ensures { λ r. ⌜ r ≡ codedBand code ⌝ }
     {
         match code {
             0 => BandOption::Some(QoSClass::UserInteractive),

@@ -1,6 +1,6 @@
 // What a task is doing, with the codes of the record's byte.
 ghost use mathlib.Core.Path.{_≡_};
-ghost use Rattle.records.specs.State.{stateCode, stateAt, isState};
+ghost use Rattle.records.specs.State.{stateCode, codedState, isState};
 
 pub enum ThreadState {
     // Waits in its band's queue.
@@ -34,7 +34,7 @@ impl ThreadState {
 
     // The state that has this code, or None for 4 and above.
     pub fn from_code(code: u8) -> StateOption
-        ensures { λ r. ⌜ r ≡ stateAt code ⌝ }
+        ensures { λ r. ⌜ r ≡ codedState code ⌝ }
     {
         match code {
             0 => StateOption::Some(ThreadState::Ready),

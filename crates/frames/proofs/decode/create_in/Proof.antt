@@ -1,6 +1,6 @@
 -- `create_in` meets its contract: the band that the byte stands for decides. Assumes nothing.
 use mathlib.Core.Path.{sym, ap, _∙_}
-use Rattle.records.specs.Band.{bandAt}
+use Rattle.records.specs.Band.{codedBand}
 use Rattle.scheduler.specs.declared.call.Call.the-variants.{Create}
 use Rattle.frames.specs.declared.decode.CallOption.the-variants.{Some}
 use Rattle.frames.proofs.Decodings.{create-as}
@@ -9,7 +9,7 @@ use Rattle.frames.proofs.decode.create_in.Statement.{statement}
 use Rattle.frames.proofs.decode.create_in.Tie as tie
 
 returns : tie.Need-returns
-returns c = create-as _ (sym (c .before .before .from-code .ensures ∙ ap bandAt (c .before .before .before .number .ensures .is)) ∙ c .enum-told .given .1)
+returns c = create-as _ (sym (c .before .before .from-code .ensures ∙ ap codedBand (c .before .before .before .number .ensures .is)) ∙ c .enum-told .given .1)
 
 returns-2 : tie.Need-returns-2
 returns-2 c =
@@ -19,7 +19,7 @@ returns-2 c =
     let at-from-code = at-qos .before .before in
     let at-number = at-from-code .before in
     (λ i. Some (Create (record { 0 = at-word-at .word-at .ensures i }) (at-qos .qos .given .0 .0) (at-number2 .number2 .ensures .is i) (c .before .number3 .ensures .is i) (c .number4 .ensures .is i)))
-    ∙ create-as _ (sym (at-from-code .from-code .ensures ∙ ap bandAt (at-number .number .ensures .is)) ∙ at-qos .qos .given .1)
+    ∙ create-as _ (sym (at-from-code .from-code .ensures ∙ ap codedBand (at-number .number .ensures .is)) ∙ at-qos .qos .given .1)
 
 pub create-in-spec : {M : Type 1} → statement M
 create-in-spec =
