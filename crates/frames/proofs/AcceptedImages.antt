@@ -24,7 +24,7 @@ use Rattle.frames.specs.AcceptedImage.{AcceptedImage, slotFits, placeFit
 use Rattle.frames.specs.Answer.{recordWidths, recordBytes}
 use Rattle.frames.specs.Bytes.{AllBytes, bytesOf, numbersAt}
 use Rattle.frames.specs.Fits.{HasImage}
-use Rattle.frames.specs.Image.{holdersPlace, recordsBytes, queueBytes, queuesBytes, imageOf, recordAt, queueAt, lengthByte, slotByte, queueIn, stateAt, FitsImage, RecordFits}
+use Rattle.frames.specs.Image.{holdersPlace, recordsBytes, queueBytes, queuesBytes, imageOf, recordAt, queueAt, lengthByte, slotByte, queueIn, stateAt, FitsImage, FitsRecord}
 use Rattle.frames.proofs.Elements.{each-append, each-at}
 use Rattle.frames.proofs.Numbers.{bytesOf-bytes, written-bytes}
 use Rattle.frames.proofs.Widths.{length-part, numbersAt-written}
@@ -158,8 +158,8 @@ module _ (s : State) (a : Accepted s) (fits : FitsImage s) where
       getD (numbersAt 0 recordWidths (recordAt slot (imageOf s))) i 0 ≡ getD (recordNumbers (task s slot)) i 0
   unfolding recordBytes
   number-is slot h i =
-      let fit : RecordFits (task s slot) =
-      each-at RecordFits (s .tasks) slot emptyRecord (fits .records) (omega (arith, a .slots)) in
+      let fit : FitsRecord (task s slot) =
+      each-at FitsRecord (s .tasks) slot emptyRecord (fits .records) (omega (arith, a .slots)) in
       ap (λ (numbers : List ℕ). getD numbers i 0)
       (ap (numbersAt 0 recordWidths) (record-at s (a .slots) slot h) ∙ numbersAt-written recordWidths (recordNumbers (task s slot)) fit)
 

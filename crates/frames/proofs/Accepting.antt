@@ -1,7 +1,7 @@
 -- How the functions of src/accept.rt meet their contracts: what the code reads in an image's bytes is what the image's state has, and a law for each
 -- way out: of slots, cores and queues, and of the whole image. Assumes nothing.
 use mathlib.Core.Path.{_≡_, sym, ap, _∙_}
-use mathlib.Core.Bool.{Bool, true, false, not, _&&_, _||_, and-false, and-true}
+use mathlib.Core.Bool.{Bool, true, false, not, _&&_, and-false, and-true}
 use mathlib.Core.Logic.{Iff·rfl}
 use mathlib.Core.List.{List}
 use Prim.Native.Nat.{ℕ, suc, _+_, _≤_, _<_}
@@ -18,7 +18,7 @@ use Rattle.records.specs.declared.task.TaskControlBlock.{TaskControlBlock}
 use Rattle.records.specs.Band.{IsBandCode}
 use Rattle.records.specs.State.{isState}
 use Rattle.records.proofs.Bands.{bandCode-small}
-use Rattle.scheduler.specs.Accepted.{every, everyBelow, recordFits, readyOf, standsOnce, mayHold, holderFits}
+use Rattle.scheduler.specs.Accepted.{every, everyBelow, recordFits, readyOf, onceIfReady, standsOnce, mayHold, holderFits}
 use Rattle.scheduler.specs.State.{noneByte, bandOrder, task, queue, holder}
 use Rattle.scheduler.proofs.Says.{Says, less, at-most, both, each, bands}
 use Rattle.frames.specs.Bytes.{part}
@@ -69,10 +69,10 @@ module _ (image : List ℕ) (slot : ℕ) {bytes : List ℕ} (h : slot < 64) (at 
     ready : isState (task (stateAt image) slot .state) Ready ≡ r
     ready = sym (is ∙ ap (λ (t : TaskControlBlock). isState (t .state) Ready) (record-read image slot h at))
 
-    pub stands-not : (n : ℕ) → not r ≡ true → true ≡ not (isState (task (stateAt image) slot .state) Ready) || eqb n 1
+    pub stands-not : (n : ℕ) → not r ≡ true → true ≡ onceIfReady (task (stateAt image) slot) n
     stands-not n e = sym (rw (ready ∙ not-true r e))
 
-    pub stands-ready : (n : ℕ) → not r ≡ false → eqb n 1 ≡ not (isState (task (stateAt image) slot .state) Ready) || eqb n 1
+    pub stands-ready : (n : ℕ) → not r ≡ false → eqb n 1 ≡ onceIfReady (task (stateAt image) slot) n
     stands-ready n e = rw (ready ∙ not-false r e)
 
     pub waiting-not : (band : QoSClass) → not r ≡ true → false ≡ readyOf band (task (stateAt image) slot)

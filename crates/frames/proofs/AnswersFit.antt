@@ -45,7 +45,7 @@ use Rattle.scheduler.specs.Waking.{freeSlot, coreHolding, create, affinity, ter
 use Rattle.scheduler.proofs.Calls.{call-accepted}
 use Rattle.frames.specs.Answer.{valueWidths}
 use Rattle.frames.specs.Bytes.{Fit}
-use Rattle.frames.specs.Fits.{CallFits, AnswerFits}
+use Rattle.frames.specs.Fits.{FitsCall, FitsAnswer}
 use Rattle.frames.specs.Image.{FitsImage}
 use Rattle.frames.proofs.AcceptedImages.{holder-small}
 use Rattle.frames.proofs.Images.{flagNumber-small}
@@ -71,31 +71,31 @@ error-small AlreadyReady = omega arith
 error-small AlreadyBlocked = omega arith
 error-small NotBlocked = omega arith
 
-refusal-fits : (e : SchedError) → AnswerFits (refusal e)
+refusal-fits : (e : SchedError) → FitsAnswer (refusal e)
 unfolding Fit paper
 refusal-fits e = (error-small e, (omega arith, (omega arith, tt)))
 
 -- done, with a pick and a value; with a value alone; with nothing; with no plan
-answered-fits : (p : PickOption) (v : Value) → PickFits p → ValueFits v → AnswerFits (answered p v)
+answered-fits : (p : PickOption) (v : Value) → PickFits p → ValueFits v → FitsAnswer (answered p v)
 unfolding Fit paper
 answered-fits pick.None v low fit = (omega arith, (omega arith, (omega arith, fit)))
 answered-fits (pick.Some p) v low fit = (omega arith, (low, (omega (arith, bandCode-small (p .band)), fit)))
 
-value-answer : (v : Value) → ValueFits v → AnswerFits (answered pick.None v)
+value-answer : (v : Value) → ValueFits v → FitsAnswer (answered pick.None v)
 value-answer v fit = answered-fits pick.None v tt fit
 
-nothing-answer : AnswerFits (answered pick.None value.Nothing)
+nothing-answer : FitsAnswer (answered pick.None value.Nothing)
 unfolding Fit
 nothing-answer = value-answer value.Nothing tt
 
-no-plan : AnswerFits (answered pick.None (value.Plan plan.None))
+no-plan : FitsAnswer (answered pick.None (value.Plan plan.None))
 unfolding Fit
 no-plan = value-answer (value.Plan plan.None) (omega arith, tt)
 
 -- ---- calls on slots
 
 abbrev Replies : Outcome → Type 0
-Replies o = AnswerFits (o .answer)
+Replies o = FitsAnswer (o .answer)
 
 module _ (s : State) where
   block-replies : (i : ℕ) → Replies (block i s)
@@ -233,7 +233,7 @@ current-fits s f core = by-if TaskFits (leb 64 core) (λ _. (omega arith, tt)) (
 -- ---- every call and query
 
 module _ (s : State) (a : Accepted s) (f : FitsImage s) where
-  plan-replies : (call : Call) → CallFits call → Plans (step call s) → Replies (step call s)
+  plan-replies : (call : Call) → FitsCall call → Plans (step call s) → Replies (step call s)
   plan-replies call fit plans = plans (call-accepted call s a) (call-bounded s (fits-bounded s f) call fit)
 
   replies : (call : Call) → Replies (step call s)
@@ -265,5 +265,5 @@ module _ (s : State) (a : Accepted s) (f : FitsImage s) where
   replies (Holder i) = value-answer (value.Core (coreOf (i .0) s)) (core-fits (i .0) s, tt)
 
 -- no number of an answer is too large for its field
-pub answer-fits-widths : (call : Call) (s : State) → Accepted s → FitsImage s → AnswerFits (step call s .answer)
+pub answer-fits-widths : (call : Call) (s : State) → Accepted s → FitsImage s → FitsAnswer (step call s .answer)
 answer-fits-widths call s a f = replies s a f call

@@ -1,7 +1,7 @@
 -- How often each slot stands in the queues: the loop that counts a queue's entries, and the three queues counted one after the other.
 -- Assumes nothing.
 use mathlib.Core.Path.{_≡_, ap, _∙_}
-use mathlib.Core.Bool.{Bool, not, _||_}
+use mathlib.Core.Bool.{Bool}
 use mathlib.Core.List.{List, [], _∷_}
 use Prim.Native.Nat.{ℕ, suc, _+_, _≤_, _<_}
 use native.Mathlib.Numerals.{add-one}
@@ -12,12 +12,10 @@ use lib.ListN.{length, getD, take, set, replicate, length-set, length-take, List
 use lib.Seq.{take-suc, take-all, getD-set-same, getD-set-other}
 use Rattle.records.specs.declared.band.QoSClass.{QoSClass}
 use Rattle.records.specs.declared.band.QoSClass.the-variants.{UserInteractive, RealTimeIO, Background}
-use Rattle.records.specs.declared.state.ThreadState.the-variants.{Ready}
-use Rattle.records.specs.State.{isState}
 use Rattle.records.proofs.Cases.{split}
 use Rattle.queue.specs.Rules.{count}
 use Rattle.queue.proofs.Counts.{count-append, count-one, count-other, length-without}
-use Rattle.scheduler.specs.Accepted.{standings, standsOnce}
+use Rattle.scheduler.specs.Accepted.{standings, onceIfReady, standsOnce}
 use Rattle.scheduler.specs.State.{State, task, queue}
 use Rattle.frames.specs.Image.{queueAt, stateAt}
 use Rattle.frames.specs.ImageParts.{LengthsFit, AtMost, Counted}
@@ -124,5 +122,5 @@ module _ (image : List ℕ) (fit : LengthsFit image) where
   }
 
 pub stands-once : {s : State} {counts : List ℕ} {slot : ℕ} {r : Bool} → CountsAre s counts → slot < 64 →
-    r ≡ not (isState (task s slot .state) Ready) || eqb (getD counts slot 0) 1 → r ≡ standsOnce s slot
-stands-once {s} {slot = slot} so h e = e ∙ ap (λ (n : ℕ). not (isState (task s slot .state) Ready) || eqb n 1) (so .each-is slot h)
+    r ≡ onceIfReady (task s slot) (getD counts slot 0) → r ≡ standsOnce s slot
+stands-once {s} {slot = slot} so h e = e ∙ ap (onceIfReady (task s slot)) (so .each-is slot h)

@@ -27,7 +27,7 @@ use Rattle.frames.specs.AcceptedImage.{AcceptedImage, bandByte, stateByt
 use Rattle.frames.specs.Answer.{recordWidths, recordBytes}
 use Rattle.frames.specs.Bytes.{AllBytes, bytesOf, bigEndian, part, numberAt, total}
 use Rattle.frames.specs.Image.{recordLength, queueLength, recordPlace, queuesPlace, queuePlace, holdersPlace, microsPlace, imageLength}
-use Rattle.frames.specs.Image.{recordsBytes, queueBytes, queuesBytes, imageOf, orEmptyBand, bandOf, orEmptyState, stateOf, recordOf, recordIn, recordsIn, recordAt, queueAt, lengthByte, slotByte, queueIn, stateAt, FitsImage, RecordFits}
+use Rattle.frames.specs.Image.{recordsBytes, queueBytes, queuesBytes, imageOf, orEmptyBand, bandOf, orEmptyState, stateOf, recordOf, recordIn, recordsIn, recordAt, queueAt, lengthByte, slotByte, queueIn, stateAt, FitsImage, FitsRecord}
 use Rattle.frames.proofs.Numbers.{length-bytesOf, bigEndian-bytesOf}
 use Rattle.frames.proofs.Sizes.{length-recordBytes}
 use Rattle.frames.proofs.Widths.{length-part, bytes-part, piecesAt, pieces-flatten, flatten-pieces, length-flatten, bytesOf-numberAt, numbersAt-written, written-numbersAt}
@@ -80,7 +80,7 @@ recordOf-numbers : (t : TaskControlBlock) → recordOf (recordNumbers t) ≡ t
 recordOf-numbers t = rw (bandOf-code (t .qos), stateOf-code (t .state), flag-number (t .«in_use»))
 
 -- written, and read back
-pub recordIn-recordBytes : (t : TaskControlBlock) → RecordFits t → recordIn (recordBytes t) ≡ t
+pub recordIn-recordBytes : (t : TaskControlBlock) → FitsRecord t → recordIn (recordBytes t) ≡ t
 unfolding recordIn recordBytes
 recordIn-recordBytes t fit = ap recordOf (numbersAt-written recordWidths (recordNumbers t) fit) ∙ recordOf-numbers t
 
@@ -126,7 +126,7 @@ record-in (t ∷ ts) rest (suc slot) d l =
     recordAt-suc slot (recordsBytes (t ∷ ts) ++ rest) ∙ ap (recordAt slot) (other-records t ts rest) ∙ record-in ts rest slot d (omega (arith, l))
 
 -- written, and read back
-recordsIn-recordsBytes : (ts : List TaskControlBlock) (rest : List ℕ) → Each RecordFits ts →
+recordsIn-recordsBytes : (ts : List TaskControlBlock) (rest : List ℕ) → Each FitsRecord ts →
     recordsIn (length ts) (recordsBytes ts ++ rest) ≡ ts
 unfolding recordsIn Each
 recordsIn-recordsBytes [] rest fit = refl
@@ -245,7 +245,7 @@ module _ (s : State) (slots : length (s .tasks) ≡ 64) where
   record-at slot l = ap (recordAt slot) (records-first s .1) ∙ record-in (s .tasks) (records-first s .0) slot _ (omega (arith, slots, l))
 
   -- all records
-  pub records-at : Each RecordFits (s .tasks) → recordsIn 64 (imageOf s) ≡ s .tasks
+  pub records-at : Each FitsRecord (s .tasks) → recordsIn 64 (imageOf s) ≡ s .tasks
   records-at fit =
       subst (λ (n : ℕ). recordsIn n (imageOf s) ≡ s .tasks) slots
       (ap (recordsIn (length (s .tasks))) (records-first s .1) ∙ recordsIn-recordsBytes (s .tasks) (records-first s .0) fit)

@@ -49,9 +49,9 @@ use Rattle.frames.specs.declared.decode.CallOption.{CallOption}
 use Rattle.frames.specs.declared.decode.CallOption.the-variants.{None, Some}
 use Rattle.frames.specs.AcceptedImage.{AcceptedImage}
 use Rattle.frames.specs.Bytes.{AllBytes, numberAt, Fit}
-use Rattle.frames.specs.Fits.{CallFits, HasImage}
+use Rattle.frames.specs.Fits.{FitsCall, HasImage}
 use Rattle.frames.specs.Frame.{argumentsLength, createIn, callsIn, frameCall}
-use Rattle.frames.specs.Image.{recordLength, recordPlace, microsPlace, recordIn, recordAt, stateAt, FitsImage, RecordFits}
+use Rattle.frames.specs.Image.{recordLength, recordPlace, microsPlace, recordIn, recordAt, stateAt, FitsImage, FitsRecord}
 use Rattle.frames.specs.Lines.{said}
 use Rattle.frames.proofs.AcceptedImages.{accepted-state, has-image}
 use Rattle.frames.proofs.Elements.{each-read, read-each, stored-read}
@@ -74,7 +74,7 @@ slice-small RealTimeIO = omega arith
 slice-small Background = omega arith
 
 -- acceptance bounds the rest: budgets are 0 or a slice, consumed times are below one, and codes are small
-record-fits : (t : TaskControlBlock) → Good t → Given t → RecordFits t
+record-fits : (t : TaskControlBlock) → Good t → Given t → FitsRecord t
 unfolding Fit
 record-fits t good (tid, (context, (cr3, (rsp0, (mask, _))))) =
     let band : bandCode (t .qos) < 256 = omega (arith, bandCode-small (t .qos)) in
@@ -85,7 +85,7 @@ record-fits t good (tid, (context, (cr3, (rsp0, (mask, _))))) =
     let flag : flagNumber (t .«in_use») < 256 = omega (arith, flagNumber-small (t .«in_use»)) in
     (tid, (band, (state, (context, (cr3, (rsp0, (mask, (budget, (consumed, (flag, tt))))))))))
 
-record-given : (t : TaskControlBlock) → RecordFits t → Given t
+record-given : (t : TaskControlBlock) → FitsRecord t → Given t
 unfolding Fit
 record-given t (tid, (_, (_, (context, (cr3, (rsp0, (mask, _))))))) = (tid, (context, (cr3, (rsp0, (mask, tt)))))
 
@@ -94,8 +94,8 @@ unfolding Fit
 empty-given = (omega arith, (omega arith, (omega arith, (omega arith, (omega arith, tt)))))
 
 -- the same of states: a slot of 64 and above reads as the empty record
-pub record-of : (s : State) → FitsImage s → (slot : ℕ) → RecordFits (task s slot)
-record-of s f = each-read RecordFits (s .tasks) emptyRecord (record-fits emptyRecord empty-good empty-given) (f .records)
+pub record-of : (s : State) → FitsImage s → (slot : ℕ) → FitsRecord (task s slot)
+record-of s f = each-read FitsRecord (s .tasks) emptyRecord (record-fits emptyRecord empty-good empty-given) (f .records)
 
 pub fits-bounded : (s : State) → FitsImage s → Bounded s
 fits-bounded s f = (λ slot. record-given (task s slot) (record-of s f slot), f .micros)
@@ -103,7 +103,7 @@ fits-bounded s f = (λ slot. record-given (task s slot) (record-of s f slot), f 
 bounded-fits : (s : State) → Accepted s → Bounded s → FitsImage s
 bounded-fits s a b =
     let k = accepted-invariant s a in
-    record { records = read-each RecordFits (s .tasks) emptyRecord (λ slot. record-fits (task s slot) (k .good slot) (b .0 slot)); micros = b .1 }
+    record { records = read-each FitsRecord (s .tasks) emptyRecord (λ slot. record-fits (task s slot) (k .good slot) (b .0 slot)); micros = b .1 }
 
 -- ---- the rules keep the bounds
 
@@ -194,7 +194,7 @@ module _ (s : State) (b : Bounded s) where
   ticked-bounded core elapsed =
       by-if Chooses (leb 64 core) (λ _. b) (λ _. tick-bounded (gain elapsed s) (b .0, omega arith) core (holderOf s core) elapsed)
 
-  pub call-bounded : (call : Call) → CallFits call → Ends (step call s)
+  pub call-bounded : (call : Call) → FitsCall call → Ends (step call s)
   unfolding create affinity terminate schedule tick yield handoff planned Fit
   call-bounded (Create tid band context cr3 rsp0) fit =
       by-if Ends (leb 64 (freeSlot s)) (λ _. b) (λ _.
@@ -220,19 +220,19 @@ module _ (s : State) (b : Bounded s) where
   call-bounded (Holder i) fit = b
 
 -- a call whose numbers fit leaves a state whose numbers fit
-pub kept-fits : (call : Call) (s : State) → Accepted s → CallFits call → FitsImage s → FitsImage (step call s .state)
+pub kept-fits : (call : Call) (s : State) → Accepted s → FitsCall call → FitsImage s → FitsImage (step call s .state)
 kept-fits call s a fit f = bounded-fits (step call s .state) (call-accepted call s a) (call-bounded s (fits-bounded s f) call fit)
 
 -- ---- the states that are reached
 
 -- by any calls whose numbers fit, from an accepted state whose numbers fit
-pub reached-image : (s : State) (calls : List Call) → Accepted s → FitsImage s → Each CallFits calls → HasImage (run calls s)
+pub reached-image : (s : State) (calls : List Call) → Accepted s → FitsImage s → Each FitsCall calls → HasImage (run calls s)
 unfolding run Each
 reached-image s [] a f fit = has-image s a f
 reached-image s (call ∷ calls) a f fit = reached-image (step call s .state) calls (call-accepted call s a) (kept-fits call s a (fit .0) f) (fit .1)
 
 -- by a call that keeps its contract, whose numbers fit
-pub meets-image : (call : Call) (s : QoSScheduler) (r : Reply) → Meets call s r → Valid s → CallFits call → FitsImage (abs s) → HasImage (abs (r .state))
+pub meets-image : (call : Call) (s : QoSScheduler) (r : Reply) → Meets call s r → Valid s → FitsCall call → FitsImage (abs s) → HasImage (abs (r .state))
 meets-image call s r m v fit f =
     has-image (abs (r .state)) (m .valid .accepted) (subst FitsImage (sym (m .state-is)) (kept-fits call (abs s) (v .accepted) fit f))
 
@@ -243,7 +243,7 @@ new-fits =
     λ slot low. subst Given (sym (getD-replicate 64 slot emptyRecord emptyRecord low)) empty-given in
     bounded-fits newState new-accepted (everywhere Given (newState .tasks) emptyRecord 64 refl empty-given all-empty, omega arith)
 
-pub new-reached : (calls : List Call) → Each CallFits calls → HasImage (run calls newState)
+pub new-reached : (calls : List Call) → Each FitsCall calls → HasImage (run calls newState)
 new-reached calls = reached-image newState calls new-accepted new-fits
 
 -- from an accepted image: what is read fits
@@ -260,41 +260,41 @@ image-fits image a =
     bounded-fits (stateAt image) (accepted-state image a)
     (everywhere Given (stateAt image .tasks) emptyRecord 64 (length-tasks image) empty-given all-read, number-small microsPlace 8 image (a .bytes))
 
-pub image-reached : (image : List ℕ) (calls : List Call) → AcceptedImage image → Each CallFits calls → HasImage (run calls (stateAt image))
+pub image-reached : (image : List ℕ) (calls : List Call) → AcceptedImage image → Each FitsCall calls → HasImage (run calls (stateAt image))
 image-reached image calls a = reached-image (stateAt image) calls (accepted-state image a) (image-fits image a)
 
 -- ---- calls that are read from frames
 
 -- no call, or one whose numbers fit
-abbrev ReadFits : CallOption → Type 0
-ReadFits None = Unit {0}
-ReadFits (Some call) = CallFits call
+abbrev FitsRead : CallOption → Type 0
+FitsRead None = Unit {0}
+FitsRead (Some call) = FitsCall call
 
 module _ (frame : List ℕ) (h : AllBytes frame) where
-  create-fits : (b : BandOption) → ReadFits (createIn b frame)
+  create-fits : (b : BandOption) → FitsRead (createIn b frame)
   create-fits band.None = tt
   create-fits (band.Some q) = (number-small 1 4 frame h, number-small 6 8 frame h, number-small 14 8 frame h, number-small 22 8 frame h)
 
   -- the table of calls
-  table-fits : Each ReadFits (callsIn frame)
+  table-fits : Each FitsRead (callsIn frame)
   unfolding Each
   table-fits = (create-fits (codedBand (numberAt 5 1 frame)), (number-small 9 8 frame h, (tt, (tt, (tt, (tt, (tt, (tt, (tt, (tt, (tt, (tt, (tt, (tt, (tt, (tt, (tt, tt)))))))))))))))))
 
-read-fits : (frame : List ℕ) → AllBytes frame → ReadFits (frameCall frame)
+read-fits : (frame : List ℕ) → AllBytes frame → FitsRead (frameCall frame)
 unfolding frameCall
 read-fits [] h = tt
 read-fits (call ∷ arguments) h =
-    by-if ReadFits (eqb (length arguments) (argumentsLength call))
-    (λ _. each-read ReadFits (callsIn (call ∷ arguments)) None tt (table-fits (call ∷ arguments) h) call)
+    by-if FitsRead (eqb (length arguments) (argumentsLength call))
+    (λ _. each-read FitsRead (callsIn (call ∷ arguments)) None tt (table-fits (call ∷ arguments) h) call)
     (λ _. tt)
 
 -- a call that is read from a frame has numbers that fit
-pub frame-fits : (frame : List ℕ) (call : Call) → AllBytes frame → frameCall frame ≡ Some call → CallFits call
-frame-fits frame call h is = subst ReadFits is (read-fits frame h)
+pub frame-fits : (frame : List ℕ) (call : Call) → AllBytes frame → frameCall frame ≡ Some call → FitsCall call
+frame-fits frame call h is = subst FitsRead is (read-fits frame h)
 
 -- ---- what a frame makes of a state that has an image has one too
 
-said-image : (c : CallOption) (s : State) → ReadFits c → HasImage s → HasImage (said c s .state)
+said-image : (c : CallOption) (s : State) → FitsRead c → HasImage s → HasImage (said c s .state)
 unfolding run Each
 said-image None s fit has = has
 said-image (Some call) s fit has = reached-image s (call ∷ []) (has .accepted) (has .fits) (fit, tt)

@@ -17,13 +17,13 @@ use Rattle.scheduler.specs.Accepted.{Each}
 use Rattle.scheduler.specs.Scheduler.{abs, Valid}
 use Rattle.scheduler.proofs.scheduler.QoSScheduler as scheduler
 use Rattle.frames.specs.Bytes.{Fit}
-use Rattle.frames.specs.Image.{FitsImage, RecordFits}
+use Rattle.frames.specs.Image.{FitsImage, FitsRecord}
 use Rattle.frames.specs.Fits.{HasImage}
 use Rattle.frames.proofs.AcceptedImages.{has-image}
 use Rattle.frames.proofs.Images.{flagNumber-small}
 
 -- tid, band, state, context, cr3, rsp0, mask, budget, consumed, in use
-typed-record : (t : TaskControlBlock) (vs : List Val) → Is (row block.the-type) t vs → RecordFits t
+typed-record : (t : TaskControlBlock) (vs : List Val) → Is (row block.the-type) t vs → FitsRecord t
 unfolding Fit
 typed-record t vs (_, (_, (tid, (_, (_, (context, (cr3, (rsp0, (mask, (budget, (consumed, _))))))))))) = (
   tid .1 .1 .0 .1,
@@ -46,7 +46,7 @@ typed-record t vs (_, (_, (tid, (_, (_, (context, (cr3, (rsp0, (mask, (budget, (
 )
 
 typed-records : (ts : List TaskControlBlock) (vs : List Val) →
-    shadow (each (block.the-field .row .Denot) (block.the-field .row .own) (map (block.the-type .to) ts) vs) → Each RecordFits ts
+    shadow (each (block.the-field .row .Denot) (block.the-field .row .own) (map (block.the-type .to) ts) vs) → Each FitsRecord ts
 unfolding Each
 typed-records [] vs p = tt
 typed-records (t ∷ ts) [] p = absurd p

@@ -17,24 +17,24 @@ use Rattle.frames.specs.Image.{imageOf, stateAt, FitsImage}
 
 -- "tid 4, [..] context 8, cr3 8, rsp0 8, mask 8": what a call gives to be stored fits its width. Nothing is asked of the others: of slots and cores
 -- the rules keep only those below 64, and elapsed goes into sums that the rules bound.
-abbrev pub CallFits : Call → Type 0
-CallFits (Create tid band context cr3 rsp0) = (tid .0 < 256 ^ 4) × (context < 256 ^ 8) × (cr3 < 256 ^ 8) × (rsp0 < 256 ^ 8)
-CallFits (Affinity slot mask) = mask < 256 ^ 8
-CallFits (Terminate slot) = Unit
-CallFits (Block slot) = Unit
-CallFits (Wake slot) = Unit
-CallFits (Enqueue slot) = Unit
-CallFits (Schedule core) = Unit
-CallFits (Tick core elapsed) = Unit
-CallFits (Yield core) = Unit
-CallFits (Handoff core) = Unit
-CallFits (Plan core elapsed) = Unit
-CallFits (CanRunOnCore slot core) = Unit
-CallFits (TaskIndexForTid tid) = Unit
-CallFits (Task slot) = Unit
-CallFits (CurrentTaskOnCpu core) = Unit
-CallFits SystemTicksUs = Unit
-CallFits (Holder slot) = Unit
+abbrev pub FitsCall : Call → Type 0
+FitsCall (Create tid band context cr3 rsp0) = (tid .0 < 256 ^ 4) × (context < 256 ^ 8) × (cr3 < 256 ^ 8) × (rsp0 < 256 ^ 8)
+FitsCall (Affinity slot mask) = mask < 256 ^ 8
+FitsCall (Terminate slot) = Unit
+FitsCall (Block slot) = Unit
+FitsCall (Wake slot) = Unit
+FitsCall (Enqueue slot) = Unit
+FitsCall (Schedule core) = Unit
+FitsCall (Tick core elapsed) = Unit
+FitsCall (Yield core) = Unit
+FitsCall (Handoff core) = Unit
+FitsCall (Plan core elapsed) = Unit
+FitsCall (CanRunOnCore slot core) = Unit
+FitsCall (TaskIndexForTid tid) = Unit
+FitsCall (Task slot) = Unit
+FitsCall (CurrentTaskOnCpu core) = Unit
+FitsCall SystemTicksUs = Unit
+FitsCall (Holder slot) = Unit
 
 -- what is claimed of every state that is reached, and of every state that a valid scheduler has
 pub record HasImage (s : State) : Type 0 where
@@ -48,5 +48,5 @@ pub record HasImage (s : State) : Type 0 where
   pub reads-as : stateAt (imageOf s) ≡ s
 
 -- no number of an answer is too large for its field
-abbrev pub AnswerFits : Answer → Type 0
-AnswerFits a = Fit (1 ∷ 1 ∷ 1 ∷ valueWidths (a .value)) (paper a)
+abbrev pub FitsAnswer : Answer → Type 0
+FitsAnswer a = Fit (1 ∷ 1 ∷ 1 ∷ valueWidths (a .value)) (paper a)

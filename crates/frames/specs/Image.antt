@@ -144,10 +144,10 @@ stateAt image = record {
 -- ---- sizes
 
 -- a record whose numbers fit their fields
-abbrev pub RecordFits : TaskControlBlock → Type 0
-RecordFits t = Fit recordWidths (recordNumbers t)
+abbrev pub FitsRecord : TaskControlBlock → Type 0
+FitsRecord t = Fit recordWidths (recordNumbers t)
 
 -- a state whose numbers fit the fields of an image: those of the records, and the microseconds; acceptance bounds all others
 pub record FitsImage (s : State) : Type 0 where
-  pub records : Each RecordFits (s .tasks)
+  pub records : Each FitsRecord (s .tasks)
   pub micros : s .micros < 256 ^ 8

@@ -1,13 +1,8 @@
 // Acceptance: whether bytes are an image that document 01 accepts, in time linear in their number.
 ghost use mathlib.Core.Path.{_≡_};
-ghost use mathlib.Core.Bool.{not, _||_};
 ghost use Prim.Native.Nat.{_+_, _≤_, _<_};
-ghost use lib.Dec.{eqb};
 ghost use lib.ListN.{length};
-ghost use Rattle.records.specs.declared.state.ThreadState.the-variants.{Ready};
-ghost use Rattle.records.specs.Band.{slice};
-ghost use Rattle.records.specs.State.{isState};
-ghost use Rattle.scheduler.specs.Accepted.{every, everyBelow, readyOf, standsOnce};
+ghost use Rattle.scheduler.specs.Accepted.{every, everyBelow, readyOf, onceIfReady, standsOnce};
 ghost use Rattle.scheduler.specs.State.{bandOrder, task, queue};
 ghost use Rattle.frames.specs.Image.{queueLength, queuePlace, holdersPlace, imageLength, recordAt, queueAt, lengthByte, slotByte, stateAt};
 ghost use Rattle.frames.specs.AcceptedImage.{acceptsImage, slotFits, placeFits, bandFits, coreFits};
@@ -211,7 +206,7 @@ fn counted(image: &[u8], band: QoSClass, mut counts: [u8; MAX_TASKS]) -> [u8; MA
 fn stands_once(image: &[u8], slot: usize, count: u8) -> bool
     requires { ⌜ length (now image) ≡ imageLength ⌝ }
     requires { ⌜ slot < 64 ⌝ }
-    ensures { λ r. ⌜ r ≡ (not (isState (task (stateAt (now (image .entry))) slot .state) Ready) || eqb count 1) ⌝ }
+    ensures { λ r. ⌜ r ≡ onceIfReady (task (stateAt (now (image .entry))) slot) count ⌝ }
 {
     if !is_ready(record_at(image, slot)) {
         return true;

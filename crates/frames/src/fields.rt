@@ -1,8 +1,7 @@
 // A record's 47 bytes: what its fields say, and what acceptance asks of a record alone. A byte that is no code reads as the
 // empty record's.
 ghost use mathlib.Core.Path.{_≡_};
-ghost use mathlib.Core.Bool.{not, _&&_, _||_};
-ghost use Prim.Native.Nat.{_<_};
+ghost use mathlib.Core.Bool.{_&&_, _||_};
 ghost use lib.Dec.{eqb};
 ghost use Rattle.records.specs.declared.state.ThreadState.the-variants.{Ready, Terminated};
 ghost use Rattle.records.specs.Band.{slice};
@@ -44,7 +43,7 @@ pub(crate) fn record_fits(bytes: &[u8]) -> bool
     number(bytes, CONSUMED_AT, 4) < slice
 }
 
-// Whether band, state and in use are codes.
+// Whether band, state and in use are codes: 0 to 2, 0 to 3, and 0 or 1.
 fn codes_fit(bytes: &[u8]) -> bool
     ensures { λ r. ⌜ r ≡ codesFit (now (bytes .entry)) ⌝ }
 {

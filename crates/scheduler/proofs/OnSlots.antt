@@ -23,7 +23,7 @@ use Rattle.queue.specs.declared.BandQueue.{BandQueue}
 use Rattle.queue.specs.declared.Pushed.{Pushed}
 use Rattle.queue.specs.Answers.{Push}
 use Rattle.queue.specs.Stored.{entries}
-use Rattle.queue.specs.Rules.{full, pushed, without}
+use Rattle.queue.specs.Rules.{full, without}
 use Rattle.queue.proofs.Rules.{takes-slot}
 use Rattle.scheduler.specs.declared.answer.Answer.{Answer}
 use Rattle.scheduler.specs.declared.answer.PickOption.the-variants as pick
@@ -32,7 +32,7 @@ use Rattle.scheduler.specs.declared.call.Call.the-variants.{Create, Affi
 use Rattle.scheduler.specs.declared.scheduler.QoSScheduler.{QoSScheduler}
 use Rattle.scheduler.specs.declared.scheduler.Reply.{Reply}
 use Rattle.scheduler.specs.State.{firstPlace, task, queue, eachQueue}
-use Rattle.scheduler.specs.Outcome.{answered, done}
+use Rattle.scheduler.specs.Outcome.{answered}
 use Rattle.scheduler.specs.Scheduler.{queuesOf, abs, Valid, Meets, Hold, refusedBy}
 use Rattle.scheduler.specs.Waking.{freeSlot, create, released, affinity, terminate, missing, block, wake, enqueue}
 use Rattle.scheduler.proofs.Promises.{leaving, meets-put, kept, meets-refused, meets-as}

@@ -83,8 +83,12 @@ readyOf band t = isState (t .state) Ready && eqb (bandCode (t .qos)) (bandCode b
 abbrev pub queueFits : State → QoSClass → Bool
 queueFits s band = leb (length (queue s band)) 64 && every (λ slot. readyOf band (task s slot)) (queue s band)
 
+-- a task whose slot stands in the queues n times
+abbrev pub onceIfReady : TaskControlBlock → ℕ → Bool
+onceIfReady t n = not (isState (t .state) Ready) || eqb n 1
+
 abbrev pub standsOnce : State → ℕ → Bool
-standsOnce s slot = not (isState (task s slot .state) Ready) || eqb (standings s slot) 1
+standsOnce s slot = onceIfReady (task s slot) (standings s slot)
 
 abbrev pub mayHold : TaskControlBlock → Bool
 mayHold t = t .«in_use» && eqb (t .«slice_budget_us») (slice (t .qos))
