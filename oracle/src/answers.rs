@@ -52,7 +52,7 @@ impl Answer {
             Value::Plan(None) | Value::Task(None) => line += "00",
             Value::Plan(Some(plan)) => line += &plan_digits(plan),
             Value::Flag(flag) => line += if *flag { "01" } else { "00" },
-            Value::Task(Some(task)) => line += &record_digits(task),
+            Value::Task(Some(task)) => line += &format!("01{}", record_digits(task)),
             Value::Micros(micros) => line += &format!("{micros:016x}"),
         }
         line
@@ -68,8 +68,8 @@ fn plan_digits(plan: &ContextSwitchPlan) -> String {
     format!("01{}{}{cr3:016x}", byte(plan.prev_task_idx), byte(target))
 }
 
-/// 01 and the record's 47 bytes.
-fn record_digits(task: &TaskControlBlock) -> String {
+/// The record's 47 bytes.
+pub fn record_digits(task: &TaskControlBlock) -> String {
     let state = match task.state {
         ThreadState::Ready => 0,
         ThreadState::Running => 1,
@@ -77,7 +77,7 @@ fn record_digits(task: &TaskControlBlock) -> String {
         ThreadState::Terminated => 3,
     };
     format!(
-        "01{:08x}{:02x}{state:02x}{:016x}{:016x}{:016x}{:016x}{:08x}{:08x}{:02x}",
+        "{:08x}{:02x}{state:02x}{:016x}{:016x}{:016x}{:016x}{:08x}{:08x}{:02x}",
         task.tid,
         task.qos as u8,
         task.context_handle,
@@ -90,6 +90,7 @@ fn record_digits(task: &TaskControlBlock) -> String {
     )
 }
 
-fn byte(place: Option<usize>) -> String {
+/// A slot or core, or none.
+pub fn byte(place: Option<usize>) -> String {
     format!("{:02x}", place.map_or(NONE, |place| place as u8))
 }

@@ -1,9 +1,11 @@
-//! The comparison: every list goes to a new process of `calls`, and its answers are held against the Rust's.
+//! The comparison: every list goes to a new process of `calls`, and from a new image through `step`; both are held against
+//! the Rust.
 
 use crate::coverage::Coverage;
 use crate::dice::Dice;
 use crate::draw::{self, Form, List};
 use crate::fields::{difference, value_of, Difference};
+use crate::host;
 use crate::moods::MOODS;
 use std::io::{self, Read, Write};
 use std::process::{Command, Output, Stdio};
@@ -42,6 +44,8 @@ pub struct Comparison {
 #[derive(Default)]
 struct Tally {
     calls: u64,
+    /// Those of the calls that were made through `step` too.
+    steps: u64,
     differences: u64,
     /// The differences to print, each behind its list's number.
     shown: Vec<(u64, String)>,
@@ -52,11 +56,12 @@ impl Comparison {
     /// Compares the lists and prints what was found. True where calls were compared and none differs.
     pub fn run(&self) -> Result<bool, String> {
         println!(
-            "{} against the Rust, seed {}, {} lists from number {}",
+            "{} and step against the Rust, seed {}, {} lists from number {}",
             self.calls, self.seed, self.lists, self.first
         );
         let mut tally = self.tally()?;
         tally.coverage.print();
+        println!("through step went all but {} lines with a bad digit or an odd one", tally.calls - tally.steps);
         tally.shown.sort_by_key(|(list, _)| *list);
         tally.shown.iter().take(SHOWN).for_each(|(_, text)| println!("{text}"));
         if tally.differences > SHOWN as u64 {
@@ -94,12 +99,18 @@ impl Comparison {
         let input = text(&list, number);
         let pieces = if is_cut(number) { pieces(&input, list.dice.clone()) } else { vec![&input[..]] };
         let output = self.answers(&pieces).map_err(|error| format!("{}: {error}", self.calls))?;
+        let stepped = host::compare(&list, &output.stdout);
         tally.calls += list.lines.len() as u64;
+        tally.steps += stepped.calls;
         tally.coverage.count(&list);
-        for (place, difference) in differences(&list, &output) {
+        let of_calls = differences(&list, &output).into_iter().map(|found| ("calls", found));
+        let of_step = stepped.differences.into_iter().map(|found| ("step", found));
+        let mut found: Vec<_> = of_calls.chain(of_step).collect();
+        found.sort_by_key(|(_, (place, _))| *place);
+        for (who, (place, difference)) in found {
             tally.differences += 1;
             if tally.shown.len() < SHOWN {
-                tally.shown.push((number, told(&list, number, place, &difference)));
+                tally.shown.push((number, told(&list, number, place, who, &difference)));
             }
         }
         Ok(())
@@ -191,7 +202,7 @@ fn pieces(input: &[u8], mut dice: Dice) -> Vec<&[u8]> {
     pieces
 }
 
-/// Each line that is not answered as the Rust answers it, by its place, and what else is wrong behind the last one.
+/// Each line that `calls` does not answer as the Rust answers it, by its place, and what else is wrong behind the last one.
 fn differences(list: &List, output: &Output) -> Vec<(usize, Difference)> {
     let mut differences = Vec::new();
     let mut answers = output.stdout.split_inclusive(|&byte| byte == b'\n');
@@ -200,9 +211,11 @@ fn differences(list: &List, output: &Output) -> Vec<(usize, Difference)> {
         let found = answers.next().unwrap_or_default();
         let differs = match found.strip_suffix(b"\n") {
             Some(found) => difference(value_of(line.call.as_ref()), expected.as_bytes(), found),
-            None => {
-                Some(Difference { field: "line", expected: expected + "\\n", found: found.escape_ascii().to_string() })
-            }
+            None => Some(Difference {
+                field: "line".into(),
+                expected: expected + "\\n",
+                found: found.escape_ascii().to_string(),
+            }),
         };
         differences.extend(differs.map(|difference| (place, difference)));
     }
@@ -216,13 +229,13 @@ fn differences(list: &List, output: &Output) -> Vec<(usize, Difference)> {
 fn wrong_behind(more: usize, output: &Output) -> Vec<Difference> {
     let mut wrong = Vec::new();
     if more > 0 {
-        wrong.push(Difference { field: "lines more", expected: "0".into(), found: more.to_string() });
+        wrong.push(Difference { field: "lines more".into(), expected: "0".into(), found: more.to_string() });
     }
     if !output.status.success() {
-        wrong.push(Difference { field: "end", expected: "status 0".into(), found: output.status.to_string() });
+        wrong.push(Difference { field: "end".into(), expected: "status 0".into(), found: output.status.to_string() });
     }
     if !output.stderr.is_empty() {
-        wrong.push(Difference { field: "standard error", expected: "".into(), found: shown(&output.stderr) });
+        wrong.push(Difference { field: "standard error".into(), expected: "".into(), found: shown(&output.stderr) });
     }
     wrong
 }
@@ -235,12 +248,12 @@ fn shown(text: &[u8]) -> String {
     text[..text.len().min(WIDEST)].escape_ascii().to_string()
 }
 
-fn told(list: &List, number: u64, place: usize, difference: &Difference) -> String {
+fn told(list: &List, number: u64, place: usize, who: &str, difference: &Difference) -> String {
     let frame = list.lines.get(place).map_or("the end".into(), |line| shown(&line.text));
     let Difference { field, expected, found } = difference;
     let mood = list.mood;
     let line = place + 1;
-    format!("list {number} ({mood}), line {line}, {frame}: {field}: expected '{expected}', found '{found}'")
+    format!("list {number} ({mood}), line {line}, {frame}: {who}: {field}: expected '{expected}', found '{found}'")
 }
 
 /// Says which list it was when the Rust or the driver panics in it.
@@ -257,6 +270,7 @@ impl Drop for NamedInPanics {
 impl Tally {
     fn plus(mut self, other: Tally) -> Tally {
         self.calls += other.calls;
+        self.steps += other.steps;
         self.differences += other.differences;
         self.shown.extend(other.shown);
         self.coverage.add(&other.coverage);
@@ -275,7 +289,7 @@ mod tests {
     }
 
     fn fields(wrong: &[Difference]) -> Vec<&str> {
-        wrong.iter().map(|difference| difference.field).collect()
+        wrong.iter().map(|difference| difference.field.as_str()).collect()
     }
 
     #[test]

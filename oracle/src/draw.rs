@@ -6,6 +6,7 @@ use crate::coverage::Sights;
 use crate::dice::Dice;
 use crate::driver::{Driver, Outside};
 use crate::frames::{self, Call};
+use crate::image::{Queues, State};
 use crate::moods::MOODS;
 use kscheduler::{ThreadState, MAX_CPUS, MAX_TASKS};
 
@@ -28,6 +29,9 @@ pub struct List {
     pub stopped: bool,
     /// What the state was like where the drawn calls ended.
     pub sights: Sights,
+    /// The Rust's state as an image where the drawn calls ended and behind the last line, each behind the number of lines
+    /// before it.
+    pub images: [(usize, Vec<u8>); 2],
     /// The list's dice behind its last line, for what else is to be drawn with it.
     pub dice: Dice,
 }
@@ -52,12 +56,17 @@ pub fn list(seed: u64, number: u64, form: &Form) -> List {
     drawing.make_tasks(&mut aim);
     let stopped = (0..calls).try_for_each(|_| drawing.draw(&mut aim, form.spoils)).is_err();
     let sights = Sights::of(&drawing.rust);
+    let drawn = drawing.lines.len();
+    let state = State::of(&drawing.rust);
     drawing.picture();
-    drawing.empty_the_queues();
+    let queues = drawing.empty_the_queues();
     if form.last_picture {
         drawing.picture();
     }
-    List { mood: mood.name, lines: drawing.lines, stopped, sights, dice: aim.dice }
+    // Nobody waits there.
+    let last = State::of(&drawing.rust).image();
+    let images = [(drawn, state.with_queues(queues).image()), (drawing.lines.len(), last)];
+    List { mood: mood.name, lines: drawing.lines, stopped, sights, images, dice: aim.dice }
 }
 
 struct Drawing {
@@ -103,12 +112,17 @@ impl Drawing {
     }
 
     /// Lets every waiting task onto core 0 and has core 0 pick until nobody waits: no query shows a queue's order, and
-    /// these picks do.
-    fn empty_the_queues(&mut self) {
+    /// these picks do. What they show are the queues as they were.
+    fn empty_the_queues(&mut self) -> Queues {
         let waits = |rust: &Driver, slot| rust.task(slot).is_some_and(|task| task.state == ThreadState::Ready);
         let waiting: Vec<usize> = (0..MAX_TASKS).filter(|&slot| waits(&self.rust, slot)).collect();
         waiting.iter().for_each(|&slot| self.make(Call::new(frames::AFFINITY, &[slot as u64, 0])));
+        let first = self.lines.len();
         (0..=waiting.len()).for_each(|_| self.make(Call::new(frames::SCHEDULE, &[0])));
+        let mut queues = Queues::default();
+        let picks = self.lines[first..].iter().filter_map(|line| line.answer.pick);
+        picks.for_each(|pick| queues[usize::from(pick.band)].push(pick.slot));
+        queues
     }
 
     /// A call that charges nobody, so that it is inside the domain.

@@ -79,7 +79,7 @@ impl Driver {
             (frames::CURRENT_TASK_ON_CPU, &[core]) => {
                 told(Value::Task(rust.current_task_on_cpu(core as usize).copied()))
             }
-            (frames::SYSTEM_TICKS_US, &[]) => told(Value::Micros(rust.system_ticks_us())),
+            (frames::SYSTEM_TICKS_US, &[]) => told(Value::Micros(self.micros())),
             (frames::HOLDER, &[slot]) => told(Value::Place(self.core_holding(slot as usize))),
             _ => unreachable!("{call:?} is no call of document 01"),
         })
@@ -173,6 +173,10 @@ impl Driver {
 
     pub fn task(&self, slot: usize) -> Option<&TaskControlBlock> {
         self.scheduler.task(slot)
+    }
+
+    pub fn micros(&self) -> u64 {
+        self.scheduler.system_ticks_us()
     }
 
     pub fn current_task(&self, core: usize) -> Option<&TaskControlBlock> {

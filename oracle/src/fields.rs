@@ -83,10 +83,15 @@ pub fn value_of(call: Option<&Call>) -> &'static [Field] {
     call.map_or(&[], |call| VALUES[usize::from(call.number)])
 }
 
-/// The first field in which our answer is not the Rust's, with the Rust's digits and ours.
+/// The names and widths of a record's fields.
+pub fn record_fields() -> impl Iterator<Item = (&'static str, usize)> {
+    RECORD.iter().filter(|field| field.part == Part::Compared).map(|field| (field.name, field.width))
+}
+
+/// The first field in which ours is not the Rust's, with the Rust's digits and ours.
 #[derive(Debug, PartialEq, Eq)]
 pub struct Difference {
-    pub field: &'static str,
+    pub field: String,
     pub expected: String,
     pub found: String,
 }
@@ -144,52 +149,53 @@ fn is_bytes(digits: &[u8], width: usize) -> bool {
 
 fn told(field: &'static str, expected: &[u8], found: &[u8]) -> Difference {
     let text = |digits: &[u8]| digits.escape_ascii().to_string();
-    Difference { field, expected: text(expected), found: text(found) }
+    Difference { field: field.into(), expected: text(expected), found: text(found) }
 }
 
 #[cfg(test)]
 mod tests {
     use super::*;
 
-    fn field_of(value: &[Field], expected: &str, found: &str) -> Option<&'static str> {
-        difference(value, expected.as_bytes(), found.as_bytes()).map(|difference| difference.field)
+    /// The field that differs, or nothing.
+    fn field_of(value: &[Field], expected: &str, found: &str) -> String {
+        difference(value, expected.as_bytes(), found.as_bytes()).map_or(String::new(), |difference| difference.field)
     }
 
     #[test]
     fn the_same_answer_has_no_difference() {
         for (value, line) in [(VALUES[0], "00ffff05"), (VALUES[2], "03ffff"), (PLAN, "00ffff00"), (&[], "09ffff")] {
-            assert_eq!(field_of(value, line, line), None, "{line}");
+            assert_eq!(field_of(value, line, line), "", "{line}");
         }
     }
 
     #[test]
     fn each_field_is_compared() {
-        assert_eq!(field_of(VALUES[6], "00050005", "03050005"), Some("status"));
-        assert_eq!(field_of(VALUES[6], "00050005", "00060005"), Some("pick's slot"));
-        assert_eq!(field_of(VALUES[6], "00050005", "00050105"), Some("pick's band"));
-        assert_eq!(field_of(VALUES[6], "00050005", "00050006"), Some("slot"));
-        assert_eq!(field_of(PLAN, "00050001ff050000000000000001", "00050001ff050000000000000002"), Some("cr3"));
-        assert_eq!(field_of(PLAN, "00050001ff050000000000000001", "00050000"), Some("plan"));
+        assert_eq!(field_of(VALUES[6], "00050005", "03050005"), "status");
+        assert_eq!(field_of(VALUES[6], "00050005", "00060005"), "pick's slot");
+        assert_eq!(field_of(VALUES[6], "00050005", "00050105"), "pick's band");
+        assert_eq!(field_of(VALUES[6], "00050005", "00050006"), "slot");
+        assert_eq!(field_of(PLAN, "00050001ff050000000000000001", "00050001ff050000000000000002"), "cr3");
+        assert_eq!(field_of(PLAN, "00050001ff050000000000000001", "00050000"), "plan");
     }
 
     #[test]
     fn an_answer_too_short_or_too_long_differs() {
-        assert_eq!(field_of(VALUES[6], "00050005", "000500"), Some("slot"));
-        assert_eq!(field_of(VALUES[6], "00050005", ""), Some("status"));
-        assert_eq!(field_of(VALUES[6], "00050005", "0005000500"), Some("the answer's end"));
-        assert_eq!(field_of(PLAN, "00ffff00", "00ffff00ff"), Some("the answer's end"));
-        assert_eq!(field_of(&[], "09ffff", "09ffff00"), Some("the answer's end"));
+        assert_eq!(field_of(VALUES[6], "00050005", "000500"), "slot");
+        assert_eq!(field_of(VALUES[6], "00050005", ""), "status");
+        assert_eq!(field_of(VALUES[6], "00050005", "0005000500"), "the answer's end");
+        assert_eq!(field_of(PLAN, "00ffff00", "00ffff00ff"), "the answer's end");
+        assert_eq!(field_of(&[], "09ffff", "09ffff00"), "the answer's end");
     }
 
     #[test]
     fn a_field_left_aside_must_be_there_and_no_more() {
         let value = [compared("slot", 1), aside("total", 8), compared("more", 1)];
-        assert_eq!(field_of(&value, "00ffff0506", "00ffff05000000000000000906"), None);
-        assert_eq!(field_of(&value, "00ffff0506", "00ffff05000000000000000907"), Some("more"));
-        assert_eq!(field_of(&value, "00ffff0506", "00ffff0500"), Some("total"));
-        assert_eq!(field_of(&value, "00ffff0506", "00ffff05000000000000000G06"), Some("total"));
-        assert_eq!(field_of(&[aside("was waiting", 1)], "00ffff", "00ffff"), Some("was waiting"));
-        assert_eq!(field_of(&value, "01ffff", "01ffff"), None);
+        assert_eq!(field_of(&value, "00ffff0506", "00ffff05000000000000000906"), "");
+        assert_eq!(field_of(&value, "00ffff0506", "00ffff05000000000000000907"), "more");
+        assert_eq!(field_of(&value, "00ffff0506", "00ffff0500"), "total");
+        assert_eq!(field_of(&value, "00ffff0506", "00ffff05000000000000000G06"), "total");
+        assert_eq!(field_of(&[aside("was waiting", 1)], "00ffff", "00ffff"), "was waiting");
+        assert_eq!(field_of(&value, "01ffff", "01ffff"), "");
     }
     #[test]
     fn a_field_left_aside_is_written_as_dots() {

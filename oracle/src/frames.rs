@@ -86,11 +86,17 @@ pub fn lines(input: &[u8]) -> impl Iterator<Item = &[u8]> {
 }
 
 /// The bytes that a line's digits stand for, two digits a byte. None for any other digit, or an odd one.
-fn bytes_of(line: &[u8]) -> Option<Vec<u8>> {
+pub fn bytes_of(line: &[u8]) -> Option<Vec<u8>> {
     if line.len() % 2 != 0 {
         return None;
     }
     line.chunks(2).map(|pair| Some(digit(pair[0])? << 4 | digit(pair[1])?)).collect()
+}
+
+/// The digits that bytes are written with, two for each.
+pub fn digits_of(bytes: &[u8]) -> Vec<u8> {
+    let digit = |half: u8| b"0123456789abcdef"[usize::from(half)];
+    bytes.iter().flat_map(|byte| [digit(byte >> 4), digit(byte & 0xf)]).collect()
 }
 
 fn digit(character: u8) -> Option<u8> {
@@ -121,6 +127,12 @@ mod tests {
         }
         let band_3 = Call::new(CREATE, &[7, 3, 0, 0, 0]).line();
         assert_eq!(Call::read(band_3.as_bytes()), None);
+    }
+
+    #[test]
+    fn bytes_are_read_back_from_their_digits() {
+        let bytes: Vec<u8> = (0..=255).collect();
+        assert_eq!(bytes_of(&digits_of(&bytes)), Some(bytes));
     }
 
     #[test]

@@ -1,8 +1,11 @@
-//! The Rust scheduler as an oracle for the program `calls`. ../README.md says what is compared and how.
+//! The Rust scheduler as an oracle for the program `calls` and the host entry `step`. ../README.md says what is compared and
+//! how.
 //!
 //!   frames, answers               document 01's lines: calls read from them, answers written to them
 //!   driver                        the Rust behind them, with the picks and holders that it does not report
 //!   fields                        answers by field: two compared, and the Rust's written with room for ours
+//!   image                         the Rust's state as document 01's image, and two images compared
+//!   host                          lists of calls through `step`, each compared
 //!   dice, moods, aim, spoil, draw random lists
 //!   compare, coverage             the comparison, and what it reached
 //!   named, store                  lists that are kept with their answers
@@ -16,6 +19,8 @@ mod draw;
 mod driver;
 mod fields;
 mod frames;
+mod host;
+mod image;
 mod moods;
 mod named;
 mod spoil;
@@ -30,7 +35,7 @@ use std::thread;
 
 const USAGE: &str = "usage:
   oracle answer                    answers the frames of standard input, as calls does
-  oracle compare [OPTION VALUE]... compares calls with the Rust: --calls PROGRAM, --lists, --first, --seed, --jobs NUMBER
+  oracle compare [OPTION VALUE]... compares calls and step with the Rust: --calls PROGRAM, --lists, --first, --seed, --jobs NUMBER
   oracle show LIST SEED            prints a random list: each frame with the Rust's answer
   oracle store FOLDER FILE         writes the named lists of a folder and random ones, with their answers";
 
@@ -87,6 +92,9 @@ fn compare(options: &[&str]) -> Result<u8, String> {
             ["--jobs", jobs] => comparison.jobs = number(jobs)?.max(1),
             _ => return Err(USAGE.into()),
         }
+    }
+    if !host::IS_LINKED {
+        return Err("step is not in this program; oracle/run builds one that has it".into());
     }
     if comparison.lists == 0 {
         return Err("no list is to be compared".into());

@@ -48,3 +48,5 @@ mod Passing
 mod RecordBytes
 mod Counting
 mod Accepting
+mod Readings
+mod Hosting

@@ -47,6 +47,24 @@ module _ {bytes : List ℕ} {r : ℕ} where
   unfolding recordIn
   in-use-is n = ap (λ (u : ℕ). eqb u 1) (n .is)
 
+-- the record that all ten make
+pub record-read : {bytes : List ℕ} {r : TaskControlBlock} → IsNumber 0 4 bytes (r .tid .0) → r .qos ≡ recordIn bytes .qos → r .state ≡ recordIn bytes .state →
+    IsNumber 6 8 bytes (r .«context_handle») → IsNumber 14 8 bytes (r .cr3) → IsNumber 22 8 bytes (r .rsp0) → IsNumber 30 8 bytes (r .«cpu_affinity») →
+    IsNumber 38 4 bytes (r .«slice_budget_us») → IsNumber 42 4 bytes (r .«consumed_slice_us») → r .«in_use» ≡ recordIn bytes .«in_use» → r ≡ recordIn bytes
+unfolding recordIn
+record-read tid qos state context cr3 rsp0 mask budget consumed in-use = λ i. record {
+  tid = record { 0 = tid .is i };
+  qos = qos i;
+  state = state i;
+  «context_handle» = context .is i;
+  cr3 = cr3 .is i;
+  rsp0 = rsp0 .is i;
+  «cpu_affinity» = mask .is i;
+  «slice_budget_us» = budget .is i;
+  «consumed_slice_us» = consumed .is i;
+  «in_use» = in-use i;
+}
+
 -- ---- a record
 
 module _ {bytes : List ℕ} where

@@ -19,3 +19,4 @@ pub mod Image
 pub mod AcceptedImage
 pub mod Fits
 pub mod ImageParts
+pub mod Host

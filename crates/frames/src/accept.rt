@@ -68,7 +68,7 @@ fn slot_fits(image: &[u8], slot: usize) -> bool
 }
 
 // A slot's record, as that part of the image.
-fn record_at(image: &[u8], slot: usize) -> &[u8]
+pub(crate) fn record_at(image: &[u8], slot: usize) -> &[u8]
     requires { ⌜ length (now image) ≡ imageLength ⌝ }
     requires { ⌜ slot < 64 ⌝ }
     ensures { λ r. ⌜ now r ≡ recordAt slot (now (image .entry)) ⌝ }
@@ -112,7 +112,7 @@ fn band_fits(image: &[u8], band: QoSClass) -> bool
 }
 
 // How many entries a band's queue has, by the image.
-fn length_byte(image: &[u8], band: QoSClass) -> usize
+pub(crate) fn length_byte(image: &[u8], band: QoSClass) -> usize
     requires { ⌜ length (now image) ≡ imageLength ⌝ }
     ensures { λ r. ⌜ r ≡ lengthByte (queueAt band (now (image .entry))) ⌝ }
 {
@@ -129,7 +129,7 @@ fn slot_byte(image: &[u8], band: QoSClass, place: usize) -> usize
 }
 
 // Where a band's queue begins; all its bytes stand before the holders.
-fn queue_at(band: QoSClass) -> usize
+pub(crate) fn queue_at(band: QoSClass) -> usize
     ensures { λ r. ⌜ (r ≡ queuePlace band) × (r + queueLength ≤ holdersPlace) ⌝ }
 {
     QUEUES_AT + QUEUE_BYTES * band.code() as usize

@@ -13,14 +13,37 @@ use crate::bytes::number;
 use crate::layout::BAND_AT;
 use crate::layout::BUDGET_AT;
 use crate::layout::CONSUMED_AT;
+use crate::layout::CONTEXT_AT;
+use crate::layout::CR3_AT;
 use crate::layout::IN_USE_AT;
 use crate::layout::MASK_AT;
+use crate::layout::RSP0_AT;
 use crate::layout::STATE_AT;
 use records::BandOption;
 use records::QoSClass;
 use records::StateOption;
+use records::TaskControlBlock;
 use records::ThreadState;
+use records::Tid;
 use records::band_slice_us;
+
+// The record that 47 bytes stand for.
+pub(crate) fn record_in(bytes: &[u8]) -> TaskControlBlock
+    ensures { λ r. ⌜ r ≡ recordIn (now (bytes .entry)) ⌝ }
+{
+    TaskControlBlock {
+        tid: Tid(number(bytes, 0, 4) as u32),
+        qos: band_in(bytes),
+        state: state_in(bytes),
+        context_handle: number(bytes, CONTEXT_AT, 8),
+        cr3: number(bytes, CR3_AT, 8),
+        rsp0: number(bytes, RSP0_AT, 8),
+        cpu_affinity: number(bytes, MASK_AT, 8),
+        slice_budget_us: number(bytes, BUDGET_AT, 4) as u32,
+        consumed_slice_us: number(bytes, CONSUMED_AT, 4) as u32,
+        in_use: is_in_use(bytes),
+    }
+}
 
 // What is asked of a record alone: its codes, in use exactly where it is not Terminated, a mask that is not 0, a budget
 // of 0 or the slice, and less consumed than the slice.

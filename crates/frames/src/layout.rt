@@ -11,6 +11,10 @@ pub(crate) const STATE_AT: usize = 5;
 // Where context, cr3, rsp0 and mask stand: behind tid, band and state.
 pub(crate) const CONTEXT_AT: usize = 6;
 
+pub(crate) const CR3_AT: usize = 14;
+
+pub(crate) const RSP0_AT: usize = 22;
+
 pub(crate) const MASK_AT: usize = 30;
 
 // Where budget, consumed and in use stand: behind those.

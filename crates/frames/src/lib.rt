@@ -10,6 +10,9 @@
 //   fields   what a record's bytes say, and what is asked of them
 //   image    a scheduler's image, written into a lent buffer
 //   accept   whether bytes are an image that is accepted
+//   read     the scheduler that an image stands for
+//   host     a call on an image, and the entry for a host kernel
+//   refusal  what is refused before a call is made
 //
 // Nothing is presumed of any bytes: what is no frame is refused with 9, and what is no image is not accepted. Each function
 // promises its whole result and the whole contents of the buffers that it is lent, as equal to definitions on lists of
@@ -21,9 +24,12 @@ mod decode;
 mod encode;
 mod fields;
 mod hex;
+mod host;
 mod image;
 mod layout;
 mod lines;
+mod read;
+mod refusal;
 
 pub use accept::accepts_image;
 pub use blocks::kept_from;
@@ -32,6 +38,9 @@ pub use decode::CallOption;
 pub use decode::read_frame;
 pub use encode::ANSWER_MAX;
 pub use encode::write_answer;
+pub use host::ImageAnswer;
+pub use host::call_on_image;
+pub use host::step;
 pub use image::write_image;
 pub use layout::IMAGE_BYTES;
 pub use lines::ANSWER_LINE_MAX;
@@ -41,3 +50,8 @@ pub use lines::answer_line;
 pub use lines::answer_text;
 pub use lines::next_line;
 pub use lines::read_line;
+pub use read::ImageRead;
+pub use read::ImageStatus;
+pub use read::check_image;
+pub use read::read_image;
+pub use refusal::HostError;

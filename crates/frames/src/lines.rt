@@ -14,12 +14,10 @@ use crate::encode::write_answer;
 use crate::hex::from_hex;
 use crate::hex::is_hex;
 use crate::hex::put_hex;
+use crate::refusal::NO_FRAME;
 use scheduler::QoSScheduler;
 
 const NEWLINE: u8 = b'\n';
-
-// The refusal of a line that is no frame.
-const NO_FRAME: u64 = 9;
 
 // ff ff, for no pick.
 const NO_PICK: u64 = 0xffff;

@@ -4,7 +4,7 @@
 // presumes at most that the queue is well formed, as `new` and every call here leave it. The laws for the crates above
 // are in proofs/Rules.antt, Counts.antt and Stored.antt.
 ghost use mathlib.Core.Path.{_≡_};
-ghost use lib.ListN.{length};
+ghost use lib.ListN.{length, take};
 ghost use mathlib.Core.List.{[]};
 ghost use Rattle.queue.specs.Stored.{entries, WellFormed, Holds};
 ghost use Rattle.queue.specs.Rules.{entryAt, without, places};
@@ -41,6 +41,22 @@ impl BandQueue {
             ring: [0; MAX_TASKS],
             head: 0,
             len: 0,
+        }
+    }
+
+    // The queue that an image's 64 places and its length stand for: the first `len` of them are its entries, from the front
+    // on; none has more than 64.
+    pub fn from_places(places: [u8; MAX_TASKS], len: usize) -> Self
+        ensures { λ r. ⌜ Holds r (take len places) ⌝ }
+    {
+        let mut kept = len;
+        if len > MAX_TASKS {
+            kept = MAX_TASKS;
+        }
+        BandQueue {
+            ring: places,
+            head: 0,
+            len: kept,
         }
     }
 

@@ -1,0 +1,136 @@
+-- The host entry: each way out of a call on an image, and of `step`, by the image's status. Assumes nothing.
+use mathlib.Core.Path.{_≡_, refl, sym, ap, subst, _∙_}
+use mathlib.Core.Bool.{Bool, true, false, cond, not, _||_, or-true}
+use mathlib.Core.List.{List}
+use Prim.Native.Nat.{ℕ, _+_, _≤_, _<_}
+use native.Mathlib.Omega.{arith}
+use borrow.Author.Tests.{lt-ltb, le-ltb, eq-eqb}
+use lib.Dec.{eqb}
+use lib.ListN.{length}
+use lib.Seq.{sets}
+use Rattle.scheduler.specs.declared.answer.Answer.{Answer}
+use Rattle.scheduler.specs.declared.answer.Status.{Status}
+use Rattle.scheduler.specs.declared.answer.Status.the-variants as status
+use Rattle.scheduler.specs.declared.call.Call.{Call}
+use Rattle.scheduler.specs.declared.scheduler.QoSScheduler.{QoSScheduler}
+use Rattle.scheduler.specs.declared.scheduler.Reply.{Reply}
+use Rattle.scheduler.specs.Outcome.{Outcome}
+use Rattle.scheduler.specs.Scheduler.{abs, Meets}
+use Rattle.scheduler.specs.State.{State}
+use Rattle.scheduler.specs.Step.{step}
+use Rattle.scheduler.proofs.Refusals.{refused-whole}
+use Rattle.frames.specs.declared.decode.CallOption.{CallOption}
+use Rattle.frames.specs.declared.decode.CallOption.the-variants.{None, Some}
+use Rattle.frames.specs.declared.host.ImageAnswer.{ImageAnswer}
+use Rattle.frames.specs.declared.host.ImageAnswer.the-variants as told
+use Rattle.frames.specs.declared.read.ImageRead.{ImageRead}
+use Rattle.frames.specs.declared.read.ImageStatus.{ImageStatus}
+use Rattle.frames.specs.declared.read.ImageStatus.the-variants as read
+use Rattle.frames.specs.declared.refusal.HostError.{HostError}
+use Rattle.frames.specs.declared.refusal.HostError.the-variants.{WrongLength, NotAccepted, NoFrame}
+use Rattle.frames.specs.AcceptedImage.{AcceptedImage, acceptsImage}
+use Rattle.frames.specs.Answer.{answerBytes}
+use Rattle.frames.specs.Bytes.{Puts}
+use Rattle.frames.specs.Frame.{frameCall}
+use Rattle.frames.specs.Host.{hostNumber, imageStatus, readState, Reads, calledOn, CallsOnImage, Hosted, hosted, hostRefused, hostCalled, hostStep, refusalIn, storedFor}
+use Rattle.frames.specs.Image.{imageLength, imageOf, stateAt}
+use Rattle.frames.proofs.Images.{writes-back}
+use Rattle.frames.proofs.Readings.{status-says}
+
+pub hostNumber-small : (e : HostError) → hostNumber e ≤ 9
+hostNumber-small WrongLength = omega arith
+hostNumber-small NotAccepted = omega arith
+hostNumber-small NoFrame = omega arith
+
+-- ---- a call on an image
+
+-- "a refused call changes neither state nor image": the image of the state that a refused call leaves is the image itself
+pub refused-image : (image : List ℕ) → AcceptedImage image → (call : Call) {e : _} → step call (stateAt image) .answer .status ≡ status.Refused e →
+    imageOf (step call (stateAt image) .state) ≡ image
+refused-image image a call {e} is = ap (λ (o : Outcome). imageOf (o .state)) (refused-whole call (stateAt image) e is) ∙ writes-back image a
+
+-- what is stored for an answer's status
+stored-image : (image : List ℕ) → AcceptedImage image → (call : Call) (st : Status) → step call (stateAt image) .answer .status ≡ st →
+    storedFor st (step call (stateAt image) .state) image ≡ imageOf (step call (stateAt image) .state)
+stored-image image a call status.Done is = rw (eq-eqb (length image) imageLength (a .length-is))
+stored-image image a call (status.Refused e) is = sym (refused-image image a call is)
+
+module _ {call : Call} {before : List ℕ} {r : ImageRead} (reads : Reads before r) where
+  pub called-refused : {e : HostError} → r .status ≡ read.Refused e → CallsOnImage call before before (told.Refused e)
+  called-refused is =
+      let st : imageStatus before ≡ read.Refused _ = sym (reads .status-is) ∙ is in
+      record { answer-is = rw st; image-is = rw st }
+
+  pub called-done : {reply : Reply} {after : List ℕ} → r .status ≡ read.Accepted → Meets call (r .state) reply →
+      after ≡ storedFor (reply .answer .status) (abs (reply .state)) before → CallsOnImage call before after (told.Answered (reply .answer))
+  called-done {reply} {after} is meets stored =
+      let st : imageStatus before ≡ read.Accepted = sym (reads .status-is) ∙ is in
+      let from : abs (r .state) ≡ stateAt before = reads .read-as .state-is ∙ ap (λ (t : ImageStatus). readState t before) st in
+      let answer-is : reply .answer ≡ step call (stateAt before) .answer = meets .answer-is ∙ ap (λ (s : State). step call s .answer) from in
+      let state-is : abs (reply .state) ≡ step call (stateAt before) .state = meets .state-is ∙ ap (λ (s : State). step call s .state) from in
+      let image-is : after ≡ imageOf (step call (stateAt before) .state) =
+      stored ∙ ap (λ (s : State). storedFor (reply .answer .status) s before) state-is
+      ∙ stored-image before (status-says before st) call (reply .answer .status) (ap (λ (a : Answer). a .status) (sym answer-is)) in
+      record { answer-is = rw st (ap told.Answered answer-is); image-is = rw st image-is }
+
+-- ---- a frame on an image
+
+module _ (image answer : List ℕ) where
+  -- by the image's status, where the buffer is long enough
+  abbrev hostOn : ImageStatus → CallOption → Hosted
+  hostOn (read.Refused e) c = hostRefused e image answer
+  hostOn read.Accepted c = hostCalled c image answer
+
+  on-tests : (long refused : Bool) (c : CallOption) →
+      cond (long || false) (hostRefused WrongLength image answer) (cond refused (hostRefused NotAccepted image answer) (hostCalled c image answer))
+      ≡ hostOn (cond long (read.Refused WrongLength) (cond refused (read.Refused NotAccepted) read.Accepted)) c
+  on-tests true refused c = refl
+  on-tests false true c = refl
+  on-tests false false c = refl
+
+  on-none : (st : ImageStatus) → hosted (256 + hostNumber (refusalIn st)) image answer ≡ hostOn st None
+  on-none (read.Refused e) = refl
+  on-none read.Accepted = refl
+
+  module _ (call : Call) {after : List ℕ} where
+    on-refused : (st : ImageStatus) {e : HostError} → told.Refused e ≡ calledOn st call image .answer → after ≡ calledOn st call image .image →
+        hosted (256 + hostNumber e) after answer ≡ hostOn st (Some call)
+    on-refused (read.Refused f) {e} is at = let same : e ≡ f = cc in λ i. hosted (256 + hostNumber (same i)) (at i) answer
+    on-refused read.Accepted is at = let never : _≡_ {A = ℕ} 0 1 = cc in absurd (omega arith)
+
+    on-answered : (st : ImageStatus) {a : Answer} {out : List ℕ} {n : ℕ} → told.Answered a ≡ calledOn st call image .answer →
+        after ≡ calledOn st call image .image → Puts (answerBytes a) 0 answer out n → hosted n after out ≡ hostOn st (Some call)
+    on-answered (read.Refused f) is at puts = let never : _≡_ {A = ℕ} 0 1 = cc in absurd (omega arith)
+    on-answered read.Accepted {a} is at puts =
+        let same : a ≡ step call (stateAt image) .answer = cc in
+        (λ i. hosted (puts .length-is i) (at i) (puts .buffer-is i))
+        ∙ ap (λ (b : Answer). hosted (length (answerBytes b)) (imageOf (step call (stateAt image) .state)) (sets answer 0 (answerBytes b))) same
+
+-- the ways out of `step`
+module _ (image frame answer : List ℕ) where
+  pub step-short : length answer < 51 → hosted (256 + hostNumber WrongLength) image answer ≡ hostStep image frame answer
+  unfolding hostStep
+  step-short h = sym (rw (lt-ltb (length answer) 51 h, or-true))
+
+  module _ (h : 51 ≤ length answer) {c : CallOption} (decoded : c ≡ frameCall frame) where
+    by-status : hostOn image answer (imageStatus image) c ≡ hostStep image frame answer
+    unfolding hostStep imageStatus
+    by-status =
+        sym (rw (le-ltb (length answer) 51 h, sym decoded) (on-tests image answer (not (eqb (length image) imageLength)) (not (acceptsImage image)) c))
+
+    pub step-none : c ≡ None → {e : HostError} → e ≡ refusalIn (imageStatus image) → hosted (256 + hostNumber e) image answer ≡ hostStep image frame answer
+    step-none none is =
+        ap (λ (e : HostError). hosted (256 + hostNumber e) image answer) is
+        ∙ on-none image answer (imageStatus image)
+        ∙ ap (hostOn image answer (imageStatus image)) (sym none)
+        ∙ by-status
+
+    module _ {call : Call} (some : c ≡ Some call) {after : List ℕ} {r : ImageAnswer} (called : CallsOnImage call image after r) where
+      called-status : hostOn image answer (imageStatus image) (Some call) ≡ hostStep image frame answer
+      called-status = ap (hostOn image answer (imageStatus image)) (sym some) ∙ by-status
+
+      pub step-refused : {e : HostError} → r ≡ told.Refused e → hosted (256 + hostNumber e) after answer ≡ hostStep image frame answer
+      step-refused is = on-refused image answer call (imageStatus image) (sym is ∙ called .answer-is) (called .image-is) ∙ called-status
+
+      pub step-answered : {a : Answer} {out : List ℕ} {n : ℕ} → r ≡ told.Answered a → Puts (answerBytes a) 0 answer out n → hosted n after out ≡ hostStep image frame answer
+      step-answered is puts = on-answered image answer call (imageStatus image) (sym is ∙ called .answer-is) (called .image-is) puts ∙ called-status

@@ -1,0 +1,129 @@
+-- Document 01, "Call frames": "The host kernel, written in C, passes image, frame bytes and answer buffer." What the reader makes of bytes, what a
+-- call makes of an image, and what a frame makes of an image and a buffer: the table of refusals in its order, on lists of bytes.
+use mathlib.Core.Path.{_≡_}
+use mathlib.Core.Bool.{Bool, cond, not, _||_}
+use mathlib.Core.List.{List}
+use Prim.Native.Nat.{ℕ, _+_}
+use lib.Dec.{ltb, eqb}
+use lib.ListN.{length}
+use lib.Seq.{sets}
+use Rattle.scheduler.specs.declared.answer.Answer.{Answer}
+use Rattle.scheduler.specs.declared.answer.Status.{Status}
+use Rattle.scheduler.specs.declared.answer.Status.the-variants as status
+use Rattle.scheduler.specs.declared.call.Call.{Call}
+use Rattle.scheduler.specs.declared.scheduler.QoSScheduler.{QoSScheduler}
+use Rattle.scheduler.specs.Outcome.{Outcome}
+use Rattle.scheduler.specs.Scheduler.{abs, Valid}
+use Rattle.scheduler.specs.State.{State, newState}
+use Rattle.scheduler.specs.Step.{step}
+use Rattle.frames.specs.declared.decode.CallOption.{CallOption}
+use Rattle.frames.specs.declared.decode.CallOption.the-variants.{None, Some}
+use Rattle.frames.specs.declared.host.ImageAnswer.{ImageAnswer}
+use Rattle.frames.specs.declared.host.ImageAnswer.the-variants as told
+use Rattle.frames.specs.declared.read.ImageRead.{ImageRead}
+use Rattle.frames.specs.declared.read.ImageStatus.{ImageStatus}
+use Rattle.frames.specs.declared.read.ImageStatus.the-variants as read
+use Rattle.frames.specs.declared.refusal.HostError.{HostError}
+use Rattle.frames.specs.declared.refusal.HostError.the-variants.{WrongLength, NotAccepted, NoFrame}
+use Rattle.frames.specs.AcceptedImage.{acceptsImage}
+use Rattle.frames.specs.Answer.{answerBytes}
+use Rattle.frames.specs.Frame.{frameCall}
+use Rattle.frames.specs.Image.{imageLength, imageOf, stateAt}
+
+-- "host entry, lengths: 7", "host entry, image: 8", "frame: 9"
+abbrev pub hostNumber : HostError → ℕ
+hostNumber WrongLength = 7
+hostNumber NotAccepted = 8
+hostNumber NoFrame = 9
+
+-- ---- reading an image
+
+-- 7 "image not 3,275 bytes", then 8 "not accepted"
+unfoldable pub imageStatus : List ℕ → ImageStatus
+imageStatus image =
+    cond (not (eqb (length image) imageLength)) (read.Refused WrongLength)
+    (cond (not (acceptsImage image)) (read.Refused NotAccepted) read.Accepted)
+
+-- the state that an accepted image stands for; a refused one is handed back as the new state
+abbrev pub readState : ImageStatus → List ℕ → State
+readState read.Accepted image = stateAt image
+readState (read.Refused e) image = newState
+
+-- a valid scheduler of this state
+pub record ReadAs (s : State) (r : QoSScheduler) : Type 0 where
+  pub valid : Valid r
+  pub state-is : abs r ≡ s
+
+-- what the reader promises of any bytes
+pub record Reads (image : List ℕ) (r : ImageRead) : Type 0 where
+  pub status-is : r .status ≡ imageStatus image
+  pub read-as : ReadAs (readState (imageStatus image) image) (r .state)
+
+-- ---- a call on an image
+
+-- what it answers, and the image then
+pub record OnImage : Type 0 where
+  pub answer : ImageAnswer
+  pub image : List ℕ
+
+-- "the image then holds the state after the call"; refused images stay as they are
+abbrev pub calledOn : ImageStatus → Call → List ℕ → OnImage
+calledOn (read.Refused e) call image = record { answer = told.Refused e; image = image }
+calledOn read.Accepted call image = record {
+  answer = told.Answered (step call (stateAt image) .answer);
+  image = imageOf (step call (stateAt image) .state);
+}
+
+pub record CallsOnImage (call : Call) (before after : List ℕ) (r : ImageAnswer) : Type 0 where
+  pub answer-is : r ≡ calledOn (imageStatus before) call before .answer
+  pub image-is : after ≡ calledOn (imageStatus before) call before .image
+
+-- ---- a frame on an image
+
+-- what the host gets, and image and answer buffer then
+pub record Hosted : Type 0 where
+  pub returned : ℕ
+  pub image : List ℕ
+  pub answer : List ℕ
+
+abbrev pub hosted : ℕ → List ℕ → List ℕ → Hosted
+hosted n image answer = record { returned = n; image = image; answer = answer }
+
+-- "or 256 plus refusal 7, 8 or 9"; "7, 8 and 9 at the host entry leave the answer buffer too"
+abbrev pub hostRefused : HostError → List ℕ → List ℕ → Hosted
+hostRefused e image answer = hosted (256 + hostNumber e) image answer
+
+-- "It gets the answer's length [..]; the image then holds the state after the call, and buffer bytes past the answer keep their contents."
+abbrev pub hostAnswered : Outcome → List ℕ → Hosted
+hostAnswered o answer = hosted (length (answerBytes (o .answer))) (imageOf (o .state)) (sets answer 0 (answerBytes (o .answer)))
+
+-- 9, or the call
+abbrev pub hostCalled : CallOption → List ℕ → List ℕ → Hosted
+hostCalled None image answer = hostRefused NoFrame image answer
+hostCalled (Some call) image answer = hostAnswered (step call (stateAt image)) answer
+
+-- 7: "image not 3,275 bytes, or answer buffer under 51"
+abbrev pub wrongLength : List ℕ → List ℕ → Bool
+wrongLength image answer = not (eqb (length image) imageLength) || ltb (length answer) 51
+
+-- the table: lengths, image, frame, call
+unfoldable pub hostStep : List ℕ → List ℕ → List ℕ → Hosted
+hostStep image frame answer =
+    cond (wrongLength image answer) (hostRefused WrongLength image answer)
+    (cond (not (acceptsImage image)) (hostRefused NotAccepted image answer)
+    (hostCalled (frameCall frame) image answer))
+
+-- ---- what the private parts promise
+
+-- the refusal where there is no call: the image's own comes first
+abbrev pub refusalIn : ImageStatus → HostError
+refusalIn (read.Refused e) = e
+refusalIn read.Accepted = NoFrame
+
+abbrev pub refusalOf : List ℕ → HostError
+refusalOf image = refusalIn (imageStatus image)
+
+-- the state's image is written over a buffer of an image's length, unless the call was refused
+abbrev pub storedFor : Status → State → List ℕ → List ℕ
+storedFor status.Done s before = cond (eqb (length before) imageLength) (imageOf s) before
+storedFor (status.Refused e) s before = before
