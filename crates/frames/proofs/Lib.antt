@@ -36,6 +36,10 @@ pub mod AcceptedImages
 pub mod Typed
 pub mod Reached
 pub mod AnswersFit
+pub mod Demand3
+pub mod Follows
+pub mod TextHistories
+pub mod Hosts
 mod Runs
 mod Encodings
 mod Decodings

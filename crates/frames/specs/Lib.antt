@@ -20,3 +20,5 @@ pub mod AcceptedImage
 pub mod Fits
 pub mod ImageParts
 pub mod Host
+pub mod Start
+pub mod Asked

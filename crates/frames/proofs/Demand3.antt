@@ -1,0 +1,51 @@
+-- Demand 3, whole: every history from a new scheduler, or from one that was read from an accepted image, is as `CodeClaim` says. Assumes nothing.
+use mathlib.Core.Path.{_≡_, refl, sym, subst}
+use mathlib.Core.List.{List}
+use Prim.Native.Nat.{ℕ}
+use Rattle.scheduler.specs.declared.scheduler.QoSScheduler.{QoSScheduler}
+use Rattle.scheduler.specs.History.{CodeClaim}
+use Rattle.scheduler.specs.Scheduler.{abs, Valid}
+use Rattle.scheduler.specs.State.{State}
+use Rattle.scheduler.proofs.Histories.{code-demand3, stored}
+use Rattle.frames.specs.declared.read.ImageStatus.{ImageStatus}
+use Rattle.frames.specs.declared.read.ImageStatus.the-variants as read
+use Rattle.frames.specs.AcceptedImage.{AcceptedImage}
+use Rattle.frames.specs.Host.{imageStatus, readState, ReadAs}
+use Rattle.frames.specs.Image.{stateAt}
+use Rattle.frames.specs.Start.{ReadFrom, Start, fromNew, fromImage, startState, Demand3}
+use Rattle.frames.proofs.AcceptedImages.{accepted-state}
+use Rattle.frames.proofs.Readings.{accepted-status}
+
+-- what the reader ensures of an accepted image
+pub read-state : {image : List ℕ} {s : QoSScheduler} → ReadFrom image s → ReadAs (stateAt image) s
+read-state {image} from =
+    let status : imageStatus image ≡ read.Accepted = accepted-status image (from .accepted) in
+    subst (ReadAs (stateAt image)) (from .state-is)
+    (subst (λ (t : ImageStatus). ReadAs (readState t image) (from .read .state)) status (from .reads .read-as))
+
+-- every accepted image is read as some scheduler
+pub a-reading : (image : List ℕ) → AcceptedImage image → (s : QoSScheduler) × ReadFrom image s
+a-reading image a =
+    let status : imageStatus image ≡ read.Accepted = accepted-status image a in
+    let s : (s : QoSScheduler) × (Valid s × (abs s ≡ stateAt image)) = stored (stateAt image) (accepted-state image a) in (
+      s .0,
+      record {
+        accepted = a;
+        read = record { status = read.Accepted; state = s .0 };
+        reads = record {
+          status-is = sym status;
+          read-as = subst (λ (t : ImageStatus). ReadAs (readState t image) (s .0)) (sym status) (record { valid = s .1 .0; state-is = s .1 .1 });
+        };
+        state-is = refl;
+      },
+    )
+
+-- a start is valid, and holds the state that the rules start from
+pub start-as : {s : QoSScheduler} (start : Start s) → ReadAs (startState start) s
+start-as (fromNew new) = record { valid = new .valid; state-is = new .state-is }
+start-as (fromImage image from) = read-state from
+
+pub demand3 : Demand3
+demand3 s start made h =
+    let is : ReadAs (startState start) s = start-as start in
+    subst (λ (t : State). CodeClaim t s made) (is .state-is) (code-demand3 s (is .valid) made h)

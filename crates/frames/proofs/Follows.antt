@@ -1,0 +1,88 @@
+-- Requests as the calls of a history: where each is told what the rules say in the state that the one before left, there is a history of just those
+-- calls whose answers they are told. Assumes nothing.
+use mathlib.Core.Path.{_≡_, refl, sym, ap, subst, _∙_}
+use mathlib.Core.List.{List, [], _∷_, _++_}
+use mathlib.Core.Logic.{inl, inr}
+use Prim.Native.Nat.{ℕ}
+use Rattle.scheduler.specs.declared.answer.Answer.{Answer}
+use Rattle.scheduler.specs.declared.call.Call.{Call}
+use Rattle.scheduler.specs.declared.scheduler.QoSScheduler.{QoSScheduler}
+use Rattle.scheduler.specs.declared.scheduler.Reply.{Reply}
+use Rattle.scheduler.specs.History.{Made, History, callsOf}
+use Rattle.scheduler.specs.Scheduler.{abs, Valid, Meets}
+use Rattle.scheduler.specs.State.{State}
+use Rattle.scheduler.specs.Step.{step, run}
+use Rattle.scheduler.proofs.Histories.{a-reply}
+use Rattle.frames.specs.declared.decode.CallOption.{CallOption}
+use Rattle.frames.specs.declared.decode.CallOption.the-variants.{None, Some}
+use Rattle.frames.specs.Asked.{Protocol, callIn, callsAmong, Follows, Asks}
+use Rattle.frames.specs.Host.{ReadAs}
+use Rattle.frames.specs.Lines.{said}
+use Rattle.frames.specs.Start.{Start, startState}
+use Rattle.frames.proofs.Demand3.{start-as, demand3}
+
+-- a frame's call, if there is one, and then others
+pub run-said : (c : CallOption) (calls : List Call) (s : State) → run (callIn c ++ calls) s ≡ run calls (said c s .state)
+unfolding run
+run-said None calls s = refl
+run-said (Some call) calls s = refl
+
+module _ {A : Type 0} (p : Protocol A) where
+  -- a request is told what the rules say in a state
+  abbrev pub SaysAt : CallOption → A → State → Type 0
+  SaysAt None a s = p .Refused a
+  SaysAt (Some call) a s = p .Told a (step call s .answer)
+
+  -- and each of a list, in the state that the one before left
+  unfoldable pub Chain : State → List A → Type 0
+  Chain s [] = Unit
+  Chain s (a ∷ rest) = SaysAt (p .asked a) a s × Chain (said (p .asked a) s .state) rest
+
+  -- a history of these requests
+  record Following (s : QoSScheduler) (requests : List A) : Type 0 where
+    made : List Made
+    history : History s made
+    calls-are : callsOf made ≡ callsAmong p requests
+    follows : Follows p requests made
+
+  -- the first, and then the others
+  first-follows : (s : QoSScheduler) → Valid s → (a : A) (rest : List A) → ((t : QoSScheduler) → Valid t → Chain (abs t) rest → Following t rest) →
+      (c : CallOption) → p .asked a ≡ c → SaysAt c a (abs s) → Chain (said c (abs s) .state) rest → Following s (a ∷ rest)
+  unfolding History callsAmong Follows
+  first-follows s v a rest others None is told chain =
+      let later : Following s rest = others s v chain in
+      record {
+        made = later .made;
+        history = later .history;
+        calls-are = later .calls-are ∙ ap (λ (c : CallOption). callIn c ++ callsAmong p rest) (sym is);
+        follows = inl (is, (told, later .follows));
+      }
+  first-follows s v a rest others (Some call) is told chain =
+      let reply : (r : Reply) × Meets call s r = a-reply s v call in
+      let meets : Meets call s (reply .0) = reply .1 in
+      let later : Following (reply .0 .state) rest = others (reply .0 .state) (meets .valid) (subst (λ (t : State). Chain t rest) (sym (meets .state-is)) chain) in
+      let now : Made = record { call = call; reply = reply .0 } in
+      record {
+        made = now ∷ later .made;
+        history = (meets, later .history);
+        calls-are = ap (λ (l : List Call). call ∷ l) (later .calls-are) ∙ ap (λ (c : CallOption). callIn c ++ callsAmong p rest) (sym is);
+        follows = inr (now, (later .made, (refl, (is, (subst (λ (answer : Answer). p .Told a answer) (sym (meets .answer-is)) told, later .follows)))));
+      }
+
+  follow : (s : QoSScheduler) → Valid s → (requests : List A) → Chain (abs s) requests → Following s requests
+  unfolding Chain History callsAmong Follows
+  follow s v [] chain = record { made = []; history = tt; calls-are = refl; follows = refl }
+  follow s v (a ∷ rest) chain = first-follows s v a rest (λ t w. follow t w rest) (p .asked a) refl (chain .0) (chain .1)
+
+  -- from a start, with all that demand 3 claims
+  pub asks : {s : QoSScheduler} (start : Start s) (requests : List A) → Chain (startState start) requests → Asks p (startState start) s requests
+  asks {s} start requests chain =
+      let is : ReadAs (startState start) s = start-as start in
+      let f : Following s requests = follow s (is .valid) requests (subst (λ (t : State). Chain t requests) (sym (is .state-is)) chain) in
+      record {
+        made = f .made;
+        history = f .history;
+        calls-are = f .calls-are;
+        follows = f .follows;
+        claim = demand3 s start (f .made) (f .history);
+      }

@@ -1,0 +1,152 @@
+-- The host entry, as a host may count on it: what is refused leaves image and buffer as they were, what is done leaves an accepted image of the
+-- state after the call; and demand 3 for a host that calls it again and again on one image (`host-demand3`). Assumes nothing.
+use mathlib.Core.Path.{_≡_, refl, sym, ap, subst, _∙_}
+use mathlib.Core.Bool.{Bool, true, false, cond, not, _||_}
+use mathlib.Core.List.{List, [], _∷_, _++_}
+use Prim.Native.Nat.{ℕ, _+_, _≤_, _<_}
+use native.Mathlib.Omega.{arith}
+use borrow.Author.Tests.{ltb-true, ltb-false, eq-eqb, le-ltb}
+use lib.Dec.{ltb, eqb}
+use lib.ListN.{length}
+use lib.Seq.{sets}
+use Rattle.records.proofs.Cases.{by-if}
+use Rattle.scheduler.specs.declared.call.Call.{Call}
+use Rattle.scheduler.specs.declared.scheduler.QoSScheduler.{QoSScheduler}
+use Rattle.scheduler.specs.Accepted.{Each}
+use Rattle.scheduler.specs.State.{State, newState}
+use Rattle.scheduler.specs.Step.{step, run}
+use Rattle.frames.specs.declared.decode.CallOption.{CallOption}
+use Rattle.frames.specs.declared.decode.CallOption.the-variants.{None, Some}
+use Rattle.frames.specs.declared.refusal.HostError.the-variants.{WrongLength, NotAccepted, NoFrame}
+use Rattle.frames.specs.AcceptedImage.{AcceptedImage, acceptsImage}
+use Rattle.frames.specs.Answer.{answerBytes}
+use Rattle.frames.specs.Asked.{callsAmong, HostCall, HostCalls, imageLeft, byHost, HostPoint, HostClaim}
+use Rattle.frames.specs.Bytes.{AllBytes}
+use Rattle.frames.specs.Fits.{HasImage}
+use Rattle.frames.specs.Frame.{frameCall}
+use Rattle.frames.specs.Host.{Hosted, hosted, hostRefused, hostCalled, wrongLength, hostStep}
+use Rattle.frames.specs.Image.{imageLength, imageOf, stateAt}
+use Rattle.frames.specs.Lines.{said}
+use Rattle.frames.specs.Start.{ReadFrom, fromImage}
+use Rattle.frames.proofs.AcceptedImages.{accepts-image, accepted-state, has-image}
+use Rattle.frames.proofs.Demand3.{a-reading}
+use Rattle.frames.proofs.Follows.{run-said, SaysAt, Chain, asks}
+use Rattle.frames.proofs.Hosting.{step-short}
+use Rattle.frames.proofs.Images.{writes-back}
+use Rattle.frames.proofs.Reached.{image-fits, new-reached, frame-image}
+use Rattle.frames.proofs.Sizes.{answer-fits}
+
+-- ---- refused
+
+-- "7, 8 and 9 at the host entry leave the answer buffer too"
+pub record Untouched (image answer : List ℕ) (h : Hosted) : Type 0 where
+  pub image-is : h .image ≡ image
+  pub answer-is : h .answer ≡ answer
+
+pub refused-untouched : (image frame answer : List ℕ) → 256 ≤ hostStep image frame answer .returned → Untouched image answer (hostStep image frame answer)
+unfolding hostStep
+refused-untouched image frame answer =
+    by-if Leaves (wrongLength image answer) (λ _ _. same) (λ _.
+    by-if Leaves (not (acceptsImage image)) (λ _ _. same) (λ _. called (frameCall frame)))
+  where
+    Leaves : Hosted → Type 0
+    Leaves h = 256 ≤ h .returned → Untouched image answer h
+
+    same : {n : ℕ} → Untouched image answer (hosted n image answer)
+    same = record { image-is = refl; answer-is = refl }
+
+    called : (c : CallOption) → Leaves (hostCalled c image answer)
+    called None h = same
+    called (Some call) h = absurd (omega (arith, h, answer-fits (step call (stateAt image) .answer)))
+
+-- ---- an accepted image
+
+-- the image of the new state is accepted, and stands for it
+pub new-image : AcceptedImage (imageOf newState) × (stateAt (imageOf newState) ≡ newState)
+unfolding run Each
+new-image = let has : HasImage newState = new-reached [] tt in (has .image-accepted, has .reads-as)
+
+module _ (image : List ℕ) (a : AcceptedImage image) where
+  -- neither 7 nor 8
+  accepted-step : (frame answer : List ℕ) → 51 ≤ length answer → hostStep image frame answer ≡ hostCalled (frameCall frame) image answer
+  unfolding hostStep
+  accepted-step frame answer room = rw (eq-eqb (length image) imageLength (a .length-is), le-ltb (length answer) 51 room, accepts-image image .1 a)
+
+  has : HasImage (stateAt image)
+  has = has-image (stateAt image) (accepted-state image a) (image-fits image a)
+
+  -- what one call leaves
+  record After (h : HostCall) (c : CallOption) : Type 0 where
+    says : SaysAt byHost c h (stateAt image)
+    image-is : h .got .image ≡ imageOf (said c (stateAt image) .state)
+
+  untouched : (h : HostCall) (n : ℕ) → 256 ≤ n → h .got ≡ hosted n image (h .buffer) → After h None
+  untouched h n large is = record {
+    says = (subst (λ (g : Hosted). 256 ≤ g .returned) (sym is) large, ap (λ (g : Hosted). g .answer) is);
+    image-is = ap (λ (g : Hosted). g .image) is ∙ sym (writes-back image a);
+  }
+
+  called : (h : HostCall) (c : CallOption) → h .got ≡ hostCalled c image (h .buffer) → After h c
+  called h None is = untouched h (256 + 9) (omega arith) is
+  called h (Some call) is = record {
+    says = (ap (λ (g : Hosted). g .returned) is, ap (λ (g : Hosted). g .answer) is);
+    image-is = ap (λ (g : Hosted). g .image) is;
+  }
+
+  after : (h : HostCall) → h .got ≡ hostStep image (h .frame) (h .buffer) → After h (byHost .asked h)
+  after h is =
+      by-if (After h) (ltb (length (h .buffer)) 51)
+      (λ short. untouched h (256 + 7) (omega arith) (is ∙ sym (step-short image (h .frame) (h .buffer) (ltb-true (length (h .buffer)) 51 short))))
+      (λ room. called h (frameCall (h .frame)) (is ∙ accepted-step (h .frame) (h .buffer) (ltb-false (length (h .buffer)) 51 room)))
+
+  -- the state that it leaves has an image again
+  said-has : (h : HostCall) → AllBytes (h .frame) → HasImage (said (byHost .asked h) (stateAt image) .state)
+  said-has h bytes =
+      by-if (λ (c : CallOption). HasImage (said c (stateAt image) .state)) (ltb (length (h .buffer)) 51)
+      (λ _. has)
+      (λ _. frame-image (h .frame) (stateAt image) bytes has)
+
+  -- one call, and the image that the next gets
+  module _ (h : HostCall) (bytes : AllBytes (h .frame)) (is : h .got ≡ hostStep image (h .frame) (h .buffer)) where
+    pub next-accepted : AcceptedImage (h .got .image)
+    next-accepted = subst AcceptedImage (sym (after h is .image-is)) (said-has h bytes .image-accepted)
+
+    pub next-state : stateAt (h .got .image) ≡ said (byHost .asked h) (stateAt image) .state
+    next-state = ap stateAt (after h is .image-is) ∙ said-has h bytes .reads-as
+
+-- ---- again and again
+
+-- each call is told what the rules say
+hosts-chain : (image : List ℕ) → AcceptedImage image → (calls : List HostCall) → HostCalls image calls → Chain byHost (stateAt image) calls
+unfolding HostCalls Chain
+hosts-chain image a [] hc = tt
+hosts-chain image a (h ∷ rest) ((bytes, is), hc) = (
+  after image a h is .says,
+  subst (λ (s : State). Chain byHost s rest) (next-state image a h bytes is) (hosts-chain (h .got .image) (next-accepted image a h bytes is) rest hc),
+)
+
+-- some of them, from the first on
+hosts-cut : (image : List ℕ) (past next : List HostCall) → HostCalls image (past ++ next) → HostCalls image past
+unfolding HostCalls
+hosts-cut image [] next hc = tt
+hosts-cut image (h ∷ past) next (one, hc) = (one, hosts-cut (h .got .image) past next hc)
+
+-- the image that they leave
+point : (image : List ℕ) → AcceptedImage image → (past : List HostCall) → HostCalls image past → HostPoint (stateAt image) past (imageLeft image past)
+unfolding HostCalls imageLeft callsAmong run
+point image a [] hc = record { image-is = sym (writes-back image a); accepted = a; state-is = refl }
+point image a (h ∷ past) ((bytes, is), hc) =
+    let later : HostPoint (stateAt (h .got .image)) past (imageLeft (h .got .image) past) = point (h .got .image) (next-accepted image a h bytes is) past hc in
+    let same : run (callsAmong byHost past) (stateAt (h .got .image)) ≡ run (callsAmong byHost (h ∷ past)) (stateAt image) =
+    ap (run (callsAmong byHost past)) (next-state image a h bytes is) ∙ sym (run-said (byHost .asked h) (callsAmong byHost past) (stateAt image)) in
+    record { image-is = later .image-is ∙ ap imageOf same; accepted = later .accepted; state-is = later .state-is ∙ same }
+
+pub host-demand3 : (image : List ℕ) → AcceptedImage image → (calls : List HostCall) → HostCalls image calls → HostClaim image calls
+host-demand3 image a calls hc =
+    let s : (s : QoSScheduler) × ReadFrom image s = a-reading image a in
+    record {
+      scheduler = s .0;
+      read-from = s .1;
+      asks = asks byHost (fromImage image (s .1)) calls (hosts-chain image a calls hc);
+      images = λ past next cut. point image a past (hosts-cut image past next (subst (HostCalls image) (sym cut) hc));
+    }
