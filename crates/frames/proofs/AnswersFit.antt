@@ -43,13 +43,14 @@ use Rattle.scheduler.specs.Step.{step}
 use Rattle.scheduler.specs.Ticking.{gain, cleared, sliceOver, requeued, tickHolder, ticked, tick, targetOf, same, planOf, answerPlan, yieldHolder, yield, handoffIn, handoffHolder, handoff, planned}
 use Rattle.scheduler.specs.Waking.{freeSlot, coreHolding, create, affinity, terminate, missing, block, enqueue, isHeld, wake}
 use Rattle.scheduler.proofs.Calls.{call-accepted}
-use Rattle.frames.specs.Answer.{valueWidths}
-use Rattle.frames.specs.Bytes.{Fit}
+use Rattle.frames.specs.Answer.{valueWidths, answerBytes}
+use Rattle.frames.specs.Bytes.{numbersAt, Fit}
 use Rattle.frames.specs.Fits.{FitsCall, FitsAnswer}
 use Rattle.frames.specs.Image.{FitsImage}
 use Rattle.frames.proofs.AcceptedImages.{holder-small}
 use Rattle.frames.proofs.Images.{flagNumber-small}
 use Rattle.frames.proofs.Reached.{Bounded, record-of, fits-bounded, call-bounded}
+use Rattle.frames.proofs.Widths.{numbersAt-written}
 
 -- ---- an answer from its parts
 
@@ -267,3 +268,9 @@ module _ (s : State) (a : Accepted s) (f : FitsImage s) where
 -- no number of an answer is too large for its field
 pub answer-fits-widths : (call : Call) (s : State) → Accepted s → FitsImage s → FitsAnswer (step call s .answer)
 answer-fits-widths call s a f = replies s a f call
+
+-- so each is read back from the answer's bytes: its status, the slot and the band of its pick, and its value
+pub answer-read : (call : Call) (s : State) → Accepted s → FitsImage s →
+    let a = step call s .answer in numbersAt 0 (1 ∷ 1 ∷ 1 ∷ valueWidths (a .value)) (answerBytes a) ≡ paper a
+unfolding answerBytes
+answer-read call s a f = numbersAt-written _ (paper (step call s .answer)) (answer-fits-widths call s a f)

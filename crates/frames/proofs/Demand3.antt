@@ -1,5 +1,5 @@
 -- Demand 3, whole: every history from a new scheduler, or from one that was read from an accepted image, is as `CodeClaim` says. Assumes nothing.
-use mathlib.Core.Path.{_≡_, refl, sym, subst}
+use mathlib.Core.Path.{_≡_, refl, sym, subst, _∙_}
 use mathlib.Core.List.{List}
 use Prim.Native.Nat.{ℕ}
 use Rattle.scheduler.specs.declared.scheduler.QoSScheduler.{QoSScheduler}
@@ -7,14 +7,15 @@ use Rattle.scheduler.specs.History.{CodeClaim}
 use Rattle.scheduler.specs.Scheduler.{abs, Valid}
 use Rattle.scheduler.specs.State.{State}
 use Rattle.scheduler.proofs.Histories.{code-demand3, stored}
+use Rattle.frames.specs.declared.read.ImageRead.{ImageRead}
 use Rattle.frames.specs.declared.read.ImageStatus.{ImageStatus}
 use Rattle.frames.specs.declared.read.ImageStatus.the-variants as read
 use Rattle.frames.specs.AcceptedImage.{AcceptedImage}
-use Rattle.frames.specs.Host.{imageStatus, readState, ReadAs}
+use Rattle.frames.specs.Host.{imageStatus, readState, ReadAs, Reads}
 use Rattle.frames.specs.Image.{stateAt}
 use Rattle.frames.specs.Start.{ReadFrom, Start, fromNew, fromImage, startState, Demand3}
 use Rattle.frames.proofs.AcceptedImages.{accepted-state}
-use Rattle.frames.proofs.Readings.{accepted-status}
+use Rattle.frames.proofs.Readings.{accepted-status, status-says}
 
 -- what the reader ensures of an accepted image
 pub read-state : {image : List ℕ} {s : QoSScheduler} → ReadFrom image s → ReadAs (stateAt image) s
@@ -22,6 +23,15 @@ read-state {image} from =
     let status : imageStatus image ≡ read.Accepted = accepted-status image (from .accepted) in
     subst (ReadAs (stateAt image)) (from .state-is)
     (subst (λ (t : ImageStatus). ReadAs (readState t image) (from .read .state)) status (from .reads .read-as))
+
+-- so what the reader hands back, where it says that the image is accepted, is a start
+pub read-starts : (image : List ℕ) (r : ImageRead) → Reads image r → r .status ≡ read.Accepted → Start (r .state)
+read-starts image r reads is = fromImage image (record {
+  accepted = status-says image (sym (reads .status-is) ∙ is);
+  read = r;
+  reads = reads;
+  state-is = refl;
+})
 
 -- every accepted image is read as some scheduler
 pub a-reading : (image : List ℕ) → AcceptedImage image → (s : QoSScheduler) × ReadFrom image s

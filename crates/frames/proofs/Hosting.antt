@@ -1,5 +1,5 @@
 -- The host entry: each way out of a call on an image, and of `step`, by the image's status. Assumes nothing.
-use mathlib.Core.Path.{_≡_, refl, sym, ap, subst, _∙_}
+use mathlib.Core.Path.{_≡_, refl, sym, ap, _∙_}
 use mathlib.Core.Bool.{Bool, true, false, cond, not, _||_, or-true}
 use mathlib.Core.List.{List}
 use Prim.Native.Nat.{ℕ, _+_, _≤_, _<_}
@@ -12,7 +12,6 @@ use Rattle.scheduler.specs.declared.answer.Answer.{Answer}
 use Rattle.scheduler.specs.declared.answer.Status.{Status}
 use Rattle.scheduler.specs.declared.answer.Status.the-variants as status
 use Rattle.scheduler.specs.declared.call.Call.{Call}
-use Rattle.scheduler.specs.declared.scheduler.QoSScheduler.{QoSScheduler}
 use Rattle.scheduler.specs.declared.scheduler.Reply.{Reply}
 use Rattle.scheduler.specs.Outcome.{Outcome}
 use Rattle.scheduler.specs.Scheduler.{abs, Meets}

@@ -1,30 +1,36 @@
 -- The host entry, as a host may count on it: what is refused leaves image and buffer as they were, what is done leaves an accepted image of the
 -- state after the call; and demand 3 for a host that calls it again and again on one image (`host-demand3`). Assumes nothing.
 use mathlib.Core.Path.{_≡_, refl, sym, ap, subst, _∙_}
-use mathlib.Core.Bool.{Bool, true, false, cond, not, _||_}
+use mathlib.Core.Bool.{not}
 use mathlib.Core.List.{List, [], _∷_, _++_}
-use Prim.Native.Nat.{ℕ, _+_, _≤_, _<_}
+use Prim.Native.Nat.{ℕ, _+_, _≤_}
 use native.Mathlib.Omega.{arith}
 use borrow.Author.Tests.{ltb-true, ltb-false, eq-eqb, le-ltb}
-use lib.Dec.{ltb, eqb}
+use lib.Dec.{ltb}
 use lib.ListN.{length}
 use lib.Seq.{sets}
+use Rattle.records.specs.declared.error.SchedError.{SchedError}
+use Rattle.records.specs.declared.error.SchedError.the-variants.{TableFull, QueueFull, NoSuchTask, AlreadyReady, AlreadyBlocked, NotBlocked}
+use Rattle.records.specs.Error.{errorCode}
 use Rattle.records.proofs.Cases.{by-if}
+use Rattle.scheduler.specs.declared.answer.Status.the-variants.{Refused}
 use Rattle.scheduler.specs.declared.call.Call.{Call}
 use Rattle.scheduler.specs.declared.scheduler.QoSScheduler.{QoSScheduler}
 use Rattle.scheduler.specs.Accepted.{Each}
-use Rattle.scheduler.specs.State.{State, newState}
+use Rattle.scheduler.specs.Outcome.{Outcome, refusal, refused}
+use Rattle.scheduler.specs.Paper.{paper}
+use Rattle.scheduler.specs.State.{State, noneByte, newState}
 use Rattle.scheduler.specs.Step.{step, run}
+use Rattle.scheduler.proofs.Refusals.{refused-whole}
 use Rattle.frames.specs.declared.decode.CallOption.{CallOption}
 use Rattle.frames.specs.declared.decode.CallOption.the-variants.{None, Some}
-use Rattle.frames.specs.declared.refusal.HostError.the-variants.{WrongLength, NotAccepted, NoFrame}
 use Rattle.frames.specs.AcceptedImage.{AcceptedImage, acceptsImage}
 use Rattle.frames.specs.Answer.{answerBytes}
 use Rattle.frames.specs.Asked.{callsAmong, HostCall, HostCalls, imageLeft, byHost, HostPoint, HostClaim}
-use Rattle.frames.specs.Bytes.{AllBytes}
+use Rattle.frames.specs.Bytes.{AllBytes, bytesOf}
 use Rattle.frames.specs.Fits.{HasImage}
 use Rattle.frames.specs.Frame.{frameCall}
-use Rattle.frames.specs.Host.{Hosted, hosted, hostRefused, hostCalled, wrongLength, hostStep}
+use Rattle.frames.specs.Host.{Hosted, hosted, hostAnswered, hostCalled, wrongLength, hostStep}
 use Rattle.frames.specs.Image.{imageLength, imageOf, stateAt}
 use Rattle.frames.specs.Lines.{said}
 use Rattle.frames.specs.Start.{ReadFrom, fromImage}
@@ -39,25 +45,29 @@ use Rattle.frames.proofs.Sizes.{answer-fits}
 -- ---- refused
 
 -- "7, 8 and 9 at the host entry leave the answer buffer too"
-pub record Untouched (image answer : List ℕ) (h : Hosted) : Type 0 where
-  pub image-is : h .image ≡ image
-  pub answer-is : h .answer ≡ answer
-
-pub refused-untouched : (image frame answer : List ℕ) → 256 ≤ hostStep image frame answer .returned → Untouched image answer (hostStep image frame answer)
+pub refused-untouched : (image frame answer : List ℕ) → 256 ≤ hostStep image frame answer .returned →
+    (hostStep image frame answer .image ≡ image) × (hostStep image frame answer .answer ≡ answer)
 unfolding hostStep
 refused-untouched image frame answer =
-    by-if Leaves (wrongLength image answer) (λ _ _. same) (λ _.
-    by-if Leaves (not (acceptsImage image)) (λ _ _. same) (λ _. called (frameCall frame)))
+    by-if Leaves (wrongLength image answer) (λ _ _. (refl, refl)) (λ _.
+    by-if Leaves (not (acceptsImage image)) (λ _ _. (refl, refl)) (λ _. called (frameCall frame)))
   where
     Leaves : Hosted → Type 0
-    Leaves h = 256 ≤ h .returned → Untouched image answer h
-
-    same : {n : ℕ} → Untouched image answer (hosted n image answer)
-    same = record { image-is = refl; answer-is = refl }
+    Leaves h = 256 ≤ h .returned → (h .image ≡ image) × (h .answer ≡ answer)
 
     called : (c : CallOption) → Leaves (hostCalled c image answer)
-    called None h = same
+    called None h = (refl, refl)
     called (Some call) h = absurd (omega (arith, h, answer-fits (step call (stateAt image) .answer)))
+
+-- 1 to 6 are answers of three bytes, the refusal and no pick
+refusal-bytes : (e : SchedError) → answerBytes (refusal e) ≡ errorCode e ∷ noneByte ∷ noneByte ∷ []
+unfolding answerBytes bytesOf paper
+refusal-bytes TableFull = refl
+refusal-bytes QueueFull = refl
+refusal-bytes NoSuchTask = refl
+refusal-bytes AlreadyReady = refl
+refusal-bytes AlreadyBlocked = refl
+refusal-bytes NotBlocked = refl
 
 -- ---- an accepted image
 
@@ -71,6 +81,17 @@ module _ (image : List ℕ) (a : AcceptedImage image) where
   accepted-step : (frame answer : List ℕ) → 51 ≤ length answer → hostStep image frame answer ≡ hostCalled (frameCall frame) image answer
   unfolding hostStep
   accepted-step frame answer room = rw (eq-eqb (length image) imageLength (a .length-is), le-ltb (length answer) 51 room, accepts-image image .1 a)
+
+  -- "a refused call changes neither state nor image"
+  pub refused-answer : (frame answer : List ℕ) (call : Call) (e : SchedError) → 51 ≤ length answer → frameCall frame ≡ Some call →
+      step call (stateAt image) .answer .status ≡ Refused e →
+      hostStep image frame answer ≡ hosted 3 image (sets answer 0 (errorCode e ∷ noneByte ∷ noneByte ∷ []))
+  refused-answer frame answer call e room is refuses =
+      let whole : step call (stateAt image) ≡ refused e (stateAt image) = refused-whole call (stateAt image) e refuses in
+      accepted-step frame answer room
+      ∙ ap (λ (c : CallOption). hostCalled c image answer) is
+      ∙ ap (λ (o : Outcome). hostAnswered o answer) whole
+      ∙ (λ i. hosted (length (refusal-bytes e i)) (writes-back image a i) (sets answer 0 (refusal-bytes e i)))
 
   has : HasImage (stateAt image)
   has = has-image (stateAt image) (accepted-state image a) (image-fits image a)

@@ -15,12 +15,17 @@
 --   Typed           a scheduler's numbers fit the fields of an image, by their types
 --   Reached         every state that calls reach from new, or from an accepted image, has an image
 --   AnswersFit      no number of an answer is too large for its field
+--   Demand3         demand 3, whole: from new and from an accepted image
+--   Follows         requests as the calls of a history
+--   TextHistories   demand 3 for lines of text
+--   Hosts           the host entry: what is refused, and demand 3 for a host on one image
 --
 -- How the functions are shown to meet their contracts: Runs is about numbers stored one behind the other,
 -- Encodings puts an answer together, Decodings is the table of calls, Cuts where a text is cut into lines, Tellings what one
 -- line is told, Onward one line and then the others, Progress the loop that answers a text. Writings puts an image together. Passing
 -- is the loop that tests every slot or core, RecordBytes what a record's bytes say, Counting how often each slot stands in the queues,
--- and Accepting has each way out of the test of an image.
+-- and Accepting has each way out of the test of an image. Readings puts a scheduler together from the parts of an image, and Hosting has each way
+-- out of a call on an image and of the host entry.
 pub mod Stores
 pub mod Elements
 pub mod Numbers

@@ -3,7 +3,7 @@
 use mathlib.Core.Path.{_≡_, refl, sym, ap, subst, _∙_}
 use mathlib.Core.Bool.{Bool, _||_, _&&_}
 use mathlib.Core.List.{List, [], _∷_, _++_, map, flatten}
-use Prim.Native.Nat.{ℕ, zero, suc, _-_}
+use Prim.Native.Nat.{ℕ, suc, _-_}
 use native.Mathlib.Omega.{arith}
 use lib.Dec.{leb}
 use lib.ListN.{length, take, length-append}
@@ -16,7 +16,7 @@ use Rattle.frames.specs.declared.decode.CallOption.the-variants.{None, S
 use Rattle.frames.specs.declared.lines.Answered.{Answered}
 use Rattle.frames.specs.Asked.{Line, byLine, TextClaim}
 use Rattle.frames.specs.Blocks.{inBlocks}
-use Rattle.frames.specs.Lines.{lineOf, lineCall, said, saidTo, lineText, pieces, closed, answerTo, stateAfter, answersTo, Reached, stop, first, answeredInRoom, Answers}
+use Rattle.frames.specs.Lines.{lineOf, lineCall, said, saidTo, lineText, pieces, closed, answerTo, stateAfter, answersTo, Reached, answeredInRoom, Answers}
 use Rattle.frames.specs.Start.{Start, fromNew, startState}
 use Rattle.frames.proofs.Demand3.{start-as}
 use Rattle.frames.proofs.Follows.{SaysAt, Chain, asks}

@@ -11,8 +11,7 @@ use lib.Seq.{sets}
 use Rattle.scheduler.specs.declared.answer.Answer.{Answer}
 use Rattle.scheduler.specs.declared.call.Call.{Call}
 use Rattle.scheduler.specs.declared.scheduler.QoSScheduler.{QoSScheduler}
-use Rattle.scheduler.specs.History.{Made, History, left, callsOf, CodeClaim}
-use Rattle.scheduler.specs.Scheduler.{abs}
+use Rattle.scheduler.specs.History.{Made, History, callsOf, CodeClaim}
 use Rattle.scheduler.specs.State.{State, noneByte}
 use Rattle.scheduler.specs.Step.{run}
 use Rattle.frames.specs.declared.decode.CallOption.{CallOption}
@@ -88,7 +87,7 @@ pub record HostCall : Type 0 where
   pub buffer : List ℕ
   pub got : Hosted
 
--- each call keeps the contract of `step`, and gets the image that the one before left; "nobody else writes it meanwhile"
+-- each call keeps the contract of `step`, its frame being bytes, and gets the image that the one before left; "nobody else writes it meanwhile"
 unfoldable pub HostCalls : List ℕ → List HostCall → Type 0
 HostCalls image [] = Unit
 HostCalls image (h ∷ rest) = (AllBytes (h .frame) × (h .got ≡ hostStep image (h .frame) (h .buffer))) × HostCalls (h .got .image) rest

@@ -7,7 +7,6 @@ use Prim.Native.Nat.{ℕ, _+_}
 use lib.Dec.{ltb, eqb}
 use lib.ListN.{length}
 use lib.Seq.{sets}
-use Rattle.scheduler.specs.declared.answer.Answer.{Answer}
 use Rattle.scheduler.specs.declared.answer.Status.{Status}
 use Rattle.scheduler.specs.declared.answer.Status.the-variants as status
 use Rattle.scheduler.specs.declared.call.Call.{Call}

@@ -1,4 +1,4 @@
--- Document 01's frames and answers as lists of bytes, text of lines, and the image. All of it computes; what a function promises is an equation to
+-- Document 01's frames and answers as lists of bytes, text of lines, the image, and the host entry. All of it computes; what a function promises is an equation to
 -- one of these definitions, or a record with named fields of such equations.
 --
 --   Bytes           big-endian numbers                  Hex      two digits a byte
@@ -9,6 +9,9 @@
 --   AcceptedImage   which images are accepted
 --   Fits            calls and answers whose numbers fit their fields, and states that have an image
 --   ImageParts      what the writer of images promises, and the parts of writer and test
+--   Host            what the reader of images, a call on an image and the host entry promise
+--   Start           demand 3, whole: from new and from an accepted image
+--   Asked           demand 3 for lines of text, and for a host that calls again and again on one image
 pub mod Bytes
 pub mod Hex
 pub mod Frame

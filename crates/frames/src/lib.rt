@@ -1,4 +1,5 @@
-// Frames of document 01: calls and answers as bytes, and as lines of text; and the image of a scheduler's state.
+// Frames of document 01: calls and answers as bytes, and as lines of text; the image of a scheduler's state; and the entry
+// for a host kernel, which does a frame on an image.
 //
 //   bytes    big-endian numbers in a slice
 //   hex      lower-case hexadecimal, two digits a byte
@@ -14,7 +15,7 @@
 //   host     a call on an image, and the entry for a host kernel
 //   refusal  what is refused before a call is made
 //
-// Nothing is presumed of any bytes: what is no frame is refused with 9, and what is no image is not accepted. Each function
+// Nothing is presumed of any bytes: what is no frame is refused with 9, and what is no image with 7 or 8. Each function
 // promises its whole result and the whole contents of the buffers that it is lent, as equal to definitions on lists of
 // bytes in specs/; proofs/ has the laws of those definitions.
 mod accept;

@@ -108,10 +108,6 @@ code-demand3 s v made h past next cut =
     let parts : History s past × History (left s past) next = history-cut s past next (subst (History s) (sym cut) h) in
     code-point s v past next (parts .0) (parts .1)
 
--- from new: the rules start at the new state
-pub code-demand3-new : (s : QoSScheduler) → IsNew s → (made : List Made) → History s made → CodeClaim newState s made
-code-demand3-new s n made h = subst (λ (t : State). CodeClaim t s made) (n .state-is) (code-demand3 s (n .valid) made h)
-
 -- X's stretch in a history is as long as can be
 pub stretchIn-longest : (x : ℕ) (s : QoSScheduler) (next : List Made) → Longest (breaks x) (picks x) (happened s next) (stretchIn x s next)
 stretchIn-longest x s next = longest (breaks x) (picks x) (happened s next)

@@ -1,6 +1,4 @@
 -- `call_on_image` meets its contract: a refused image stays as it is, and else the call is done. Assumes nothing.
-use mathlib.Core.Path.{ap, _∙_}
-use lib.ListN.{length}
 use borrow.Author.Needs.{needs}
 use Rattle.frames.proofs.Hosting.{called-refused, called-done}
 use Rattle.frames.proofs.host.call_on_image.Statement.{statement}

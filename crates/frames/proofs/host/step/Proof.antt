@@ -1,6 +1,5 @@
 -- `step` meets its contract: a law for each way out. Assumes nothing.
 use mathlib.Core.Path.{ap, _∙_}
-use Prim.Native.Nat.{_+_}
 use borrow.Author.Needs.{needs}
 use Rattle.frames.specs.Host.{hosted}
 use Rattle.frames.proofs.Hosting.{step-short, step-none, step-refused, step-answered}
