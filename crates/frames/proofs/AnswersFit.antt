@@ -1,15 +1,15 @@
 -- Document 01, "Call frames": the numbers of an answer fit their fields, in every accepted state whose own numbers fit. Slots come from the table,
 -- from holders and from picks, and a pick is its core's holder in the state that is left; cores are below 64; the numbers of records and plans are
 -- the state's. Assumes nothing.
-use mathlib.Core.Path.{_≡_}
+use mathlib.Core.Path.{_≡_, refl, _∙_}
 use mathlib.Core.Bool.{false, not}
-use mathlib.Core.List.{[], _∷_}
-use Prim.Native.Nat.{ℕ, _<_}
+use mathlib.Core.List.{List, [], _∷_, _++_}
+use Prim.Native.Nat.{ℕ, _+_, _%_, _≤_, _<_}
 use native.Mathlib.Omega.{arith}
 use borrow.Author.Tests.{leb-false}
 use lib.Dec.{leb, eqb}
-use lib.ListN.{length-set}
-use lib.Seq.{getD-set-same}
+use lib.ListN.{length, length-set}
+use lib.Seq.{sets, getD-set-same}
 use Rattle.records.specs.declared.error.SchedError.{SchedError}
 use Rattle.records.specs.declared.error.SchedError.the-variants.{TableFull, QueueFull, NoSuchTask, AlreadyReady, AlreadyBlocked, NotBlocked}
 use Rattle.records.specs.declared.ids.SlotOption.{SlotOption}
@@ -21,6 +21,8 @@ use Rattle.records.specs.State.{isState}
 use Rattle.records.proofs.Bands.{bandCode-small}
 use Rattle.records.proofs.Cases.{by-if}
 use Rattle.queue.specs.Rules.{full}
+use Rattle.records.specs.Band.{bandCode}
+use Rattle.scheduler.specs.declared.answer.Answer.{Answer}
 use Rattle.scheduler.specs.declared.answer.CoreOption.{CoreOption}
 use Rattle.scheduler.specs.declared.answer.PickOption.{PickOption}
 use Rattle.scheduler.specs.declared.answer.PickOption.the-variants as pick
@@ -35,7 +37,7 @@ use Rattle.scheduler.specs.declared.call.Call.{Call}
 use Rattle.scheduler.specs.declared.call.Call.the-variants.{Create, Affinity, Terminate, Block, Wake, Enqueue, Schedule, Tick, Yield, Handoff, Plan, CanRunOnCore, TaskIndexForTid, Task, CurrentTaskOnCpu, SystemTicksUs, Holder}
 use Rattle.scheduler.specs.Accepted.{Accepted}
 use Rattle.scheduler.specs.Outcome.{Outcome, Chosen, answered, refusal, goOn}
-use Rattle.scheduler.specs.Paper.{paper, slotNumber, coreNumber, targetNumbers, valueNumbers}
+use Rattle.scheduler.specs.Paper.{paper, statusNumber, pickNumbers, slotNumber, coreNumber, targetNumbers, valueNumbers}
 use Rattle.scheduler.specs.Picking.{choice, afterPick, ruleP, answerSlot, schedule}
 use Rattle.scheduler.specs.Queries.{canRunOnCore, slotBelow, hasTid, taskIndexForTid, taskAt, recordOf, currentTaskOnCpu, coreOf}
 use Rattle.scheduler.specs.State.{State, firstPlace, bandOrder, noneByte, task, queue, holder, holderOf}
@@ -43,13 +45,15 @@ use Rattle.scheduler.specs.Step.{step}
 use Rattle.scheduler.specs.Ticking.{gain, cleared, sliceOver, requeued, tickHolder, ticked, tick, targetOf, same, planOf, answerPlan, yieldHolder, yield, handoffIn, handoffHolder, handoff, planned}
 use Rattle.scheduler.specs.Waking.{freeSlot, coreHolding, create, affinity, terminate, missing, block, enqueue, isHeld, wake}
 use Rattle.scheduler.proofs.Calls.{call-accepted}
-use Rattle.frames.specs.Answer.{valueWidths, answerBytes}
-use Rattle.frames.specs.Bytes.{numbersAt, Fit}
+use Rattle.frames.specs.Answer.{valueWidths, valueBytes, answerBytes, pickIn}
+use Rattle.frames.specs.Bytes.{bytesOf, written, numbersAt, Fit}
 use Rattle.frames.specs.Fits.{FitsCall, FitsAnswer}
 use Rattle.frames.specs.Image.{FitsImage}
 use Rattle.frames.proofs.AcceptedImages.{holder-small}
 use Rattle.frames.proofs.Images.{flagNumber-small}
 use Rattle.frames.proofs.Reached.{Bounded, record-of, fits-bounded, call-bounded}
+use Rattle.frames.proofs.Sizes.{length-answerBytes, answer-fits}
+use Rattle.frames.proofs.Stores.{sets-read}
 use Rattle.frames.proofs.Widths.{numbersAt-written}
 
 -- ---- an answer from its parts
@@ -274,3 +278,23 @@ pub answer-read : (call : Call) (s : State) → Accepted s → FitsImage s →
     let a = step call s .answer in numbersAt 0 (1 ∷ 1 ∷ 1 ∷ valueWidths (a .value)) (answerBytes a) ≡ paper a
 unfolding answerBytes
 answer-read call s a f = numbersAt-written _ (paper (step call s .answer)) (answer-fits-widths call s a f)
+
+-- the pick stands behind the status, in whatever buffer the answer is stored
+pick-behind : (status : ℕ) (p : PickOption) (widths numbers : List ℕ) → Fit (1 ∷ 1 ∷ 1 ∷ widths) (status ∷ (pickNumbers p ++ numbers)) →
+    pickIn (written (1 ∷ 1 ∷ 1 ∷ widths) (status ∷ (pickNumbers p ++ numbers))) ≡ pickNumbers p
+unfolding Fit bytesOf
+pick-behind status pick.None widths numbers fit = refl
+pick-behind status (pick.Some p) widths numbers fit =
+    let slot : p .slot .0 % 256 ≡ p .slot .0 = omega (arith, fit .1 .0) in
+    let band : bandCode (p .band) % 256 ≡ bandCode (p .band) = omega (arith, bandCode-small (p .band)) in
+    λ i. slot i ∷ band i ∷ []
+
+pub pick-told : (call : Call) (s : State) → Accepted s → FitsImage s → (o : List ℕ) → 51 ≤ length o →
+    let a = step call s .answer in pickIn (sets o 0 (answerBytes a)) ≡ pickNumbers (a .pick)
+unfolding answerBytes paper
+pick-told call s a f o room =
+    let answer : Answer = step call s .answer in
+    let long : length (answerBytes answer) ≡ 3 + length (valueBytes (answer .value)) = length-answerBytes answer in
+    let whole : length (answerBytes answer) ≤ length o = omega (arith, room, answer-fits answer) in
+    (λ i. sets-read o (answerBytes answer) 1 whole (omega (arith, long)) i ∷ sets-read o (answerBytes answer) 2 whole (omega (arith, long)) i ∷ [])
+    ∙ pick-behind (statusNumber (answer .status)) (answer .pick) (valueWidths (answer .value)) (valueNumbers (answer .value)) (answer-fits-widths call s a f)

@@ -11,7 +11,7 @@ use Rattle.frames.specs.declared.read.ImageRead.{ImageRead}
 use Rattle.frames.specs.declared.read.ImageStatus.{ImageStatus}
 use Rattle.frames.specs.declared.read.ImageStatus.the-variants as read
 use Rattle.frames.specs.AcceptedImage.{AcceptedImage}
-use Rattle.frames.specs.Host.{imageStatus, readState, ReadAs, Reads}
+use Rattle.frames.specs.Host.{imageStatus, readState, ReadAs, ReadsImage}
 use Rattle.frames.specs.Image.{stateAt}
 use Rattle.frames.specs.Start.{ReadFrom, Start, fromNew, fromImage, startState, Demand3}
 use Rattle.frames.proofs.AcceptedImages.{accepted-state}
@@ -25,7 +25,7 @@ read-state {image} from =
     (subst (λ (t : ImageStatus). ReadAs (readState t image) (from .read .state)) status (from .reads .read-as))
 
 -- so what the reader hands back, where it says that the image is accepted, is a start
-pub read-starts : (image : List ℕ) (r : ImageRead) → Reads image r → r .status ≡ read.Accepted → Start (r .state)
+pub read-starts : (image : List ℕ) (r : ImageRead) → ReadsImage image r → r .status ≡ read.Accepted → Start (r .state)
 read-starts image r reads is = fromImage image (record {
   accepted = status-says image (sym (reads .status-is) ∙ is);
   read = r;

@@ -41,20 +41,18 @@ module _ {A : Type 0} (p : Protocol A) where
   record Following (s : QoSScheduler) (requests : List A) : Type 0 where
     made : List Made
     history : History s made
-    calls-are : callsOf made ≡ callsAmong p requests
     follows : Follows p requests made
 
   -- the first, and then the others
   first-follows : (s : QoSScheduler) → Valid s → (a : A) (rest : List A) → ((t : QoSScheduler) → Valid t → Chain (abs t) rest → Following t rest) →
       (c : CallOption) → p .asked a ≡ c → SaysAt c a (abs s) → Chain (said c (abs s) .state) rest → Following s (a ∷ rest)
-  unfolding History callsAmong Follows
+  unfolding History Follows
   first-follows s v a rest others None is told chain =
       let later : Following s rest = others s v chain in
       record {
         made = later .made;
         history = later .history;
-        calls-are = later .calls-are ∙ ap (λ (c : CallOption). callIn c ++ callsAmong p rest) (sym is);
-        follows = inl (is, (told, later .follows));
+        follows = inl (record { no-call = is; refused = told }, later .follows);
       }
   first-follows s v a rest others (Some call) is told chain =
       let reply : (r : Reply) × Meets call s r = a-reply s v call in
@@ -64,14 +62,57 @@ module _ {A : Type 0} (p : Protocol A) where
       record {
         made = now ∷ later .made;
         history = (meets, later .history);
-        calls-are = ap (λ (l : List Call). call ∷ l) (later .calls-are) ∙ ap (λ (c : CallOption). callIn c ++ callsAmong p rest) (sym is);
-        follows = inr (now, (later .made, (refl, (is, (subst (λ (answer : Answer). p .Told a answer) (sym (meets .answer-is)) told, later .follows)))));
+        follows = inr (
+          now,
+          (
+            later .made,
+            (
+              record { made-is = refl; call-is = is; told = subst (λ (answer : Answer). p .Told a answer) (sym (meets .answer-is)) told },
+              later .follows,
+            ),
+          ),
+        );
       }
 
   follow : (s : QoSScheduler) → Valid s → (requests : List A) → Chain (abs s) requests → Following s requests
-  unfolding Chain History callsAmong Follows
-  follow s v [] chain = record { made = []; history = tt; calls-are = refl; follows = refl }
+  unfolding Chain History Follows
+  follow s v [] chain = record { made = []; history = tt; follows = refl }
   follow s v (a ∷ rest) chain = first-follows s v a rest (λ t w. follow t w rest) (p .asked a) refl (chain .0) (chain .1)
+
+  -- the calls that are made are those that are asked for
+  follows-calls : (requests : List A) (made : List Made) → Follows p requests made → callsOf made ≡ callsAmong p requests
+  unfolding Follows callsAmong
+  follows-calls [] made f = ap callsOf f
+  follows-calls (a ∷ rest) made (inl (passed, f)) =
+      follows-calls rest made f ∙ ap (λ (c : CallOption). callIn c ++ callsAmong p rest) (sym (passed .no-call))
+  follows-calls (a ∷ rest) made (inr (m, (later, (next, f)))) =
+      ap callsOf (next .made-is)
+      ∙ ap (λ (l : List Call). m .call ∷ l) (follows-calls rest later f)
+      ∙ ap (λ (c : CallOption). callIn c ++ callsAmong p rest) (sym (next .call-is))
+
+  -- where requests are cut, the history is cut
+  record Cut (past next : List A) (whole : List Made) : Type 0 where
+    made : List Made
+    later : List Made
+    cut : made ++ later ≡ whole
+    so-far : Follows p past made
+    to-come : Follows p next later
+
+  follows-cut : (past next : List A) (whole : List Made) → Follows p (past ++ next) whole → Cut past next whole
+  unfolding Follows
+  follows-cut [] next whole f = record { made = []; later = whole; cut = refl; so-far = refl; to-come = f }
+  follows-cut (a ∷ past) next whole (inl (passed, f)) =
+      let c : Cut past next whole = follows-cut past next whole f in
+      record { made = c .made; later = c .later; cut = c .cut; so-far = inl (passed, c .so-far); to-come = c .to-come }
+  follows-cut (a ∷ past) next whole (inr (m, (others, (is, f)))) =
+      let c : Cut past next others = follows-cut past next others f in
+      record {
+        made = m ∷ c .made;
+        later = c .later;
+        cut = ap (λ (l : List Made). m ∷ l) (c .cut) ∙ sym (is .made-is);
+        so-far = inr (m, (c .made, (record { made-is = refl; call-is = is .call-is; told = is .told }, c .so-far)));
+        to-come = c .to-come;
+      }
 
   -- from a start, with all that demand 3 claims
   pub asks : {s : QoSScheduler} (start : Start s) (requests : List A) → Chain (startState start) requests → Asks p (startState start) s requests
@@ -81,7 +122,16 @@ module _ {A : Type 0} (p : Protocol A) where
       record {
         made = f .made;
         history = f .history;
-        calls-are = f .calls-are;
         follows = f .follows;
-        claim = demand3 s start (f .made) (f .history);
+        points = λ past next here.
+            let c : Cut past next (f .made) = follows-cut past next (f .made) (subst (λ (l : List A). Follows p l (f .made)) (sym here) (f .follows)) in
+            record {
+              made = c .made;
+              later = c .later;
+              cut = c .cut;
+              so-far = c .so-far;
+              to-come = c .to-come;
+              calls-are = follows-calls past (c .made) (c .so-far);
+              point = demand3 s start (f .made) (f .history) (c .made) (c .later) (c .cut);
+            };
       }

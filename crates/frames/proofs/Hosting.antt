@@ -2,7 +2,7 @@
 use mathlib.Core.Path.{_≡_, refl, sym, ap, _∙_}
 use mathlib.Core.Bool.{Bool, true, false, cond, not, _||_, or-true}
 use mathlib.Core.List.{List}
-use Prim.Native.Nat.{ℕ, _+_, _≤_, _<_}
+use Prim.Native.Nat.{ℕ, _≤_, _<_}
 use native.Mathlib.Omega.{arith}
 use borrow.Author.Tests.{lt-ltb, le-ltb, eq-eqb}
 use lib.Dec.{eqb}
@@ -31,7 +31,7 @@ use Rattle.frames.specs.AcceptedImage.{AcceptedImage, acceptsImage}
 use Rattle.frames.specs.Answer.{answerBytes}
 use Rattle.frames.specs.Bytes.{Puts}
 use Rattle.frames.specs.Frame.{frameCall}
-use Rattle.frames.specs.Host.{hostNumber, imageStatus, readState, Reads, calledOn, CallsOnImage, Hosted, hosted, hostRefused, hostCalled, hostStep, refusalIn, storedFor}
+use Rattle.frames.specs.Host.{hostNumber, refusalReturned, answerRoom, imageStatus, readState, ReadsImage, OnImage, onImage, calledOn, callOnImage, Hosted, hosted, hostRefused, hostCalled, hostStep, refusalIn, storedFor}
 use Rattle.frames.specs.Image.{imageLength, imageOf, stateAt}
 use Rattle.frames.proofs.Images.{writes-back}
 use Rattle.frames.proofs.Readings.{status-says}
@@ -54,14 +54,14 @@ stored-image : (image : List ℕ) → AcceptedImage image → (call : Call) (st 
 stored-image image a call status.Done is = rw (eq-eqb (length image) imageLength (a .length-is))
 stored-image image a call (status.Refused e) is = sym (refused-image image a call is)
 
-module _ {call : Call} {before : List ℕ} {r : ImageRead} (reads : Reads before r) where
-  pub called-refused : {e : HostError} → r .status ≡ read.Refused e → CallsOnImage call before before (told.Refused e)
-  called-refused is =
-      let st : imageStatus before ≡ read.Refused _ = sym (reads .status-is) ∙ is in
-      record { answer-is = rw st; image-is = rw st }
+module _ (call : Call) {before : List ℕ} {r : ImageRead} (reads : ReadsImage before r) where
+  pub called-refused : {e : HostError} → r .status ≡ read.Refused e → onImage (told.Refused e) before ≡ callOnImage call before
+  unfolding callOnImage
+  called-refused is = ap (λ (t : ImageStatus). calledOn t call before) (sym is ∙ reads .status-is)
 
   pub called-done : {reply : Reply} {after : List ℕ} → r .status ≡ read.Accepted → Meets call (r .state) reply →
-      after ≡ storedFor (reply .answer .status) (abs (reply .state)) before → CallsOnImage call before after (told.Answered (reply .answer))
+      after ≡ storedFor (reply .answer .status) (abs (reply .state)) before → onImage (told.Answered (reply .answer)) after ≡ callOnImage call before
+  unfolding callOnImage
   called-done {reply} {after} is meets stored =
       let st : imageStatus before ≡ read.Accepted = sym (reads .status-is) ∙ is in
       let from : abs (r .state) ≡ stateAt before = reads .read-as .state-is ∙ ap (λ (t : ImageStatus). readState t before) st in
@@ -70,7 +70,7 @@ module _ {call : Call} {before : List ℕ} {r : ImageRead} (reads : Reads before
       let image-is : after ≡ imageOf (step call (stateAt before) .state) =
       stored ∙ ap (λ (s : State). storedFor (reply .answer .status) s before) state-is
       ∙ stored-image before (status-says before st) call (reply .answer .status) (ap (λ (a : Answer). a .status) (sym answer-is)) in
-      record { answer-is = rw st (ap told.Answered answer-is); image-is = rw st image-is }
+      (λ i. onImage (told.Answered (answer-is i)) (image-is i)) ∙ ap (λ (t : ImageStatus). calledOn t call before) (sym st)
 
 -- ---- a frame on an image
 
@@ -87,14 +87,14 @@ module _ (image answer : List ℕ) where
   on-tests false true c = refl
   on-tests false false c = refl
 
-  on-none : (st : ImageStatus) → hosted (256 + hostNumber (refusalIn st)) image answer ≡ hostOn st None
+  on-none : (st : ImageStatus) → hosted (refusalReturned (refusalIn st)) image answer ≡ hostOn st None
   on-none (read.Refused e) = refl
   on-none read.Accepted = refl
 
   module _ (call : Call) {after : List ℕ} where
     on-refused : (st : ImageStatus) {e : HostError} → told.Refused e ≡ calledOn st call image .answer → after ≡ calledOn st call image .image →
-        hosted (256 + hostNumber e) after answer ≡ hostOn st (Some call)
-    on-refused (read.Refused f) {e} is at = let same : e ≡ f = cc in λ i. hosted (256 + hostNumber (same i)) (at i) answer
+        hosted (refusalReturned e) after answer ≡ hostOn st (Some call)
+    on-refused (read.Refused f) {e} is at = let same : e ≡ f = cc in λ i. hosted (refusalReturned (same i)) (at i) answer
     on-refused read.Accepted is at = let never : _≡_ {A = ℕ} 0 1 = cc in absurd (omega arith)
 
     on-answered : (st : ImageStatus) {a : Answer} {out : List ℕ} {n : ℕ} → told.Answered a ≡ calledOn st call image .answer →
@@ -107,29 +107,37 @@ module _ (image answer : List ℕ) where
 
 -- the ways out of `step`
 module _ (image frame answer : List ℕ) where
-  pub step-short : length answer < 51 → hosted (256 + hostNumber WrongLength) image answer ≡ hostStep image frame answer
+  pub step-short : length answer < answerRoom → hosted (refusalReturned WrongLength) image answer ≡ hostStep image frame answer
   unfolding hostStep
-  step-short h = sym (rw (lt-ltb (length answer) 51 h, or-true))
+  step-short h = sym (rw (lt-ltb (length answer) answerRoom h, or-true))
 
-  module _ (h : 51 ≤ length answer) {c : CallOption} (decoded : c ≡ frameCall frame) where
+  module _ (h : answerRoom ≤ length answer) {c : CallOption} (decoded : c ≡ frameCall frame) where
     by-status : hostOn image answer (imageStatus image) c ≡ hostStep image frame answer
     unfolding hostStep imageStatus
     by-status =
-        sym (rw (le-ltb (length answer) 51 h, sym decoded) (on-tests image answer (not (eqb (length image) imageLength)) (not (acceptsImage image)) c))
+        sym (rw (le-ltb (length answer) answerRoom h, sym decoded) (on-tests image answer (not (eqb (length image) imageLength)) (not (acceptsImage image)) c))
 
-    pub step-none : c ≡ None → {e : HostError} → e ≡ refusalIn (imageStatus image) → hosted (256 + hostNumber e) image answer ≡ hostStep image frame answer
+    pub step-none : c ≡ None → {e : HostError} → e ≡ refusalIn (imageStatus image) → hosted (refusalReturned e) image answer ≡ hostStep image frame answer
     step-none none is =
-        ap (λ (e : HostError). hosted (256 + hostNumber e) image answer) is
+        ap (λ (e : HostError). hosted (refusalReturned e) image answer) is
         ∙ on-none image answer (imageStatus image)
         ∙ ap (hostOn image answer (imageStatus image)) (sym none)
         ∙ by-status
 
-    module _ {call : Call} (some : c ≡ Some call) {after : List ℕ} {r : ImageAnswer} (called : CallsOnImage call image after r) where
+    module _ {call : Call} (some : c ≡ Some call) {after : List ℕ} {r : ImageAnswer} (called : onImage r after ≡ callOnImage call image) where
+      called-answer : r ≡ calledOn (imageStatus image) call image .answer
+      unfolding callOnImage
+      called-answer = ap (λ (o : OnImage). o .answer) called
+
+      called-image : after ≡ calledOn (imageStatus image) call image .image
+      unfolding callOnImage
+      called-image = ap (λ (o : OnImage). o .image) called
+
       called-status : hostOn image answer (imageStatus image) (Some call) ≡ hostStep image frame answer
       called-status = ap (hostOn image answer (imageStatus image)) (sym some) ∙ by-status
 
-      pub step-refused : {e : HostError} → r ≡ told.Refused e → hosted (256 + hostNumber e) after answer ≡ hostStep image frame answer
-      step-refused is = on-refused image answer call (imageStatus image) (sym is ∙ called .answer-is) (called .image-is) ∙ called-status
+      pub step-refused : {e : HostError} → r ≡ told.Refused e → hosted (refusalReturned e) after answer ≡ hostStep image frame answer
+      step-refused is = on-refused image answer call (imageStatus image) (sym is ∙ called-answer) called-image ∙ called-status
 
       pub step-answered : {a : Answer} {out : List ℕ} {n : ℕ} → r ≡ told.Answered a → Puts (answerBytes a) 0 answer out n → hosted n after out ≡ hostStep image frame answer
-      step-answered is puts = on-answered image answer call (imageStatus image) (sym is ∙ called .answer-is) (called .image-is) puts ∙ called-status
+      step-answered is puts = on-answered image answer call (imageStatus image) (sym is ∙ called-answer) called-image puts ∙ called-status

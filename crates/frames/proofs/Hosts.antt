@@ -1,7 +1,7 @@
 -- The host entry, as a host may count on it: what is refused leaves image and buffer as they were, what is done leaves an accepted image of the
 -- state after the call; and demand 3 for a host that calls it again and again on one image (`host-demand3`). Assumes nothing.
 use mathlib.Core.Path.{_≡_, refl, sym, ap, subst, _∙_}
-use mathlib.Core.Bool.{not}
+use mathlib.Core.Bool.{Bool, false, cond, not}
 use mathlib.Core.List.{List, [], _∷_, _++_}
 use Prim.Native.Nat.{ℕ, _+_, _≤_}
 use native.Mathlib.Omega.{arith}
@@ -24,22 +24,26 @@ use Rattle.scheduler.specs.Step.{step, run}
 use Rattle.scheduler.proofs.Refusals.{refused-whole}
 use Rattle.frames.specs.declared.decode.CallOption.{CallOption}
 use Rattle.frames.specs.declared.decode.CallOption.the-variants.{None, Some}
+use Rattle.frames.specs.declared.refusal.HostError.{HostError}
+use Rattle.frames.specs.declared.refusal.HostError.the-variants.{WrongLength, NoFrame}
 use Rattle.frames.specs.AcceptedImage.{AcceptedImage, acceptsImage}
-use Rattle.frames.specs.Answer.{answerBytes}
-use Rattle.frames.specs.Asked.{callsAmong, HostCall, HostCalls, imageLeft, byHost, HostPoint, HostClaim}
+use Rattle.frames.specs.Answer.{answerBytes, pickIn}
+use Rattle.frames.specs.Asked.{callsAmong, AskedPoint, Asks, HostCall, HostCalls, imageLeft, refusalTo, byHost, HostClaim}
 use Rattle.frames.specs.Bytes.{AllBytes, bytesOf}
-use Rattle.frames.specs.Fits.{HasImage}
+use Rattle.frames.specs.Fits.{FitsCall, HasImage}
 use Rattle.frames.specs.Frame.{frameCall}
-use Rattle.frames.specs.Host.{Hosted, hosted, hostAnswered, hostCalled, wrongLength, hostStep}
+use Rattle.frames.specs.Host.{refusalReturned, answerRoom, callOnImage, Hosted, hosted, hostRefused, hostAnswered, hostCalled, wrongLength, hostStep}
 use Rattle.frames.specs.Image.{imageLength, imageOf, stateAt}
 use Rattle.frames.specs.Lines.{said}
 use Rattle.frames.specs.Start.{ReadFrom, fromImage}
 use Rattle.frames.proofs.AcceptedImages.{accepts-image, accepted-state, has-image}
 use Rattle.frames.proofs.Demand3.{a-reading}
 use Rattle.frames.proofs.Follows.{run-said, SaysAt, Chain, asks}
+use Rattle.frames.proofs.AnswersFit.{pick-told}
 use Rattle.frames.proofs.Hosting.{step-short}
 use Rattle.frames.proofs.Images.{writes-back}
-use Rattle.frames.proofs.Reached.{image-fits, new-reached, frame-image}
+use Rattle.frames.proofs.Reached.{image-fits, new-reached, image-reached, frame-image}
+use Rattle.frames.proofs.Readings.{accepted-status}
 use Rattle.frames.proofs.Sizes.{answer-fits}
 
 -- ---- refused
@@ -78,12 +82,12 @@ new-image = let has : HasImage newState = new-reached [] tt in (has .image-accep
 
 module _ (image : List ℕ) (a : AcceptedImage image) where
   -- neither 7 nor 8
-  accepted-step : (frame answer : List ℕ) → 51 ≤ length answer → hostStep image frame answer ≡ hostCalled (frameCall frame) image answer
+  accepted-step : (frame answer : List ℕ) → answerRoom ≤ length answer → hostStep image frame answer ≡ hostCalled (frameCall frame) image answer
   unfolding hostStep
-  accepted-step frame answer room = rw (eq-eqb (length image) imageLength (a .length-is), le-ltb (length answer) 51 room, accepts-image image .1 a)
+  accepted-step frame answer room = rw (eq-eqb (length image) imageLength (a .length-is), le-ltb (length answer) answerRoom room, accepts-image image .1 a)
 
   -- "a refused call changes neither state nor image"
-  pub refused-answer : (frame answer : List ℕ) (call : Call) (e : SchedError) → 51 ≤ length answer → frameCall frame ≡ Some call →
+  pub refused-answer : (frame answer : List ℕ) (call : Call) (e : SchedError) → answerRoom ≤ length answer → frameCall frame ≡ Some call →
       step call (stateAt image) .answer .status ≡ Refused e →
       hostStep image frame answer ≡ hosted 3 image (sets answer 0 (errorCode e ∷ noneByte ∷ noneByte ∷ []))
   refused-answer frame answer call e room is refuses =
@@ -93,6 +97,14 @@ module _ (image : List ℕ) (a : AcceptedImage image) where
       ∙ ap (λ (o : Outcome). hostAnswered o answer) whole
       ∙ (λ i. hosted (length (refusal-bytes e i)) (writes-back image a i) (sets answer 0 (refusal-bytes e i)))
 
+  -- a call on it leaves an accepted image of the state after the call
+  pub called-accepted : (call : Call) → FitsCall call →
+      AcceptedImage (callOnImage call image .image) × (stateAt (callOnImage call image .image) ≡ step call (stateAt image) .state)
+  unfolding callOnImage run Each
+  called-accepted call fit =
+      let reached : HasImage (step call (stateAt image) .state) = image-reached image (call ∷ []) a (fit, tt) in
+      rw (accepted-status image a) (reached .image-accepted, reached .reads-as)
+
   has : HasImage (stateAt image)
   has = has-image (stateAt image) (accepted-state image a) (image-fits image a)
 
@@ -101,29 +113,40 @@ module _ (image : List ℕ) (a : AcceptedImage image) where
     says : SaysAt byHost c h (stateAt image)
     image-is : h .got .image ≡ imageOf (said c (stateAt image) .state)
 
-  untouched : (h : HostCall) (n : ℕ) → 256 ≤ n → h .got ≡ hosted n image (h .buffer) → After h None
-  untouched h n large is = record {
-    says = (subst (λ (g : Hosted). 256 ≤ g .returned) (sym is) large, ap (λ (g : Hosted). g .answer) is);
+  untouched : (h : HostCall) (e : HostError) → e ≡ refusalTo h → h .got ≡ hostRefused e image (h .buffer) → After h None
+  untouched h e which is = record {
+    says = (ap (λ (g : Hosted). g .returned) is ∙ ap refusalReturned which, ap (λ (g : Hosted). g .answer) is);
     image-is = ap (λ (g : Hosted). g .image) is ∙ sym (writes-back image a);
   }
 
-  called : (h : HostCall) (c : CallOption) → h .got ≡ hostCalled c image (h .buffer) → After h c
-  called h None is = untouched h (256 + 9) (omega arith) is
-  called h (Some call) is = record {
-    says = (ap (λ (g : Hosted). g .returned) is, ap (λ (g : Hosted). g .answer) is);
-    image-is = ap (λ (g : Hosted). g .image) is;
-  }
+  answered : (h : HostCall) (call : Call) → answerRoom ≤ length (h .buffer) → h .got ≡ hostAnswered (step call (stateAt image)) (h .buffer) → After h (Some call)
+  answered h call room is =
+      let buffer-is : h .got .answer ≡ sets (h .buffer) 0 (answerBytes (step call (stateAt image) .answer)) = ap (λ (g : Hosted). g .answer) is in
+      record {
+        says = record {
+          returned-is = ap (λ (g : Hosted). g .returned) is;
+          buffer-is = buffer-is;
+          pick-is = ap pickIn buffer-is ∙ pick-told call (stateAt image) (accepted-state image a) (image-fits image a) (h .buffer) room;
+        };
+        image-is = ap (λ (g : Hosted). g .image) is;
+      }
+
+  called : (h : HostCall) (c : CallOption) → ltb (length (h .buffer)) answerRoom ≡ false → h .got ≡ hostCalled c image (h .buffer) → After h c
+  called h None room is = untouched h NoFrame (ap (λ (b : Bool). cond b WrongLength NoFrame) (sym room)) is
+  called h (Some call) room is = answered h call (ltb-false (length (h .buffer)) answerRoom room) is
 
   after : (h : HostCall) → h .got ≡ hostStep image (h .frame) (h .buffer) → After h (byHost .asked h)
   after h is =
-      by-if (After h) (ltb (length (h .buffer)) 51)
-      (λ short. untouched h (256 + 7) (omega arith) (is ∙ sym (step-short image (h .frame) (h .buffer) (ltb-true (length (h .buffer)) 51 short))))
-      (λ room. called h (frameCall (h .frame)) (is ∙ accepted-step (h .frame) (h .buffer) (ltb-false (length (h .buffer)) 51 room)))
+      by-if (After h) (ltb (length (h .buffer)) answerRoom)
+      (λ short.
+      untouched h WrongLength (ap (λ (b : Bool). cond b WrongLength NoFrame) (sym short))
+      (is ∙ sym (step-short image (h .frame) (h .buffer) (ltb-true (length (h .buffer)) answerRoom short))))
+      (λ room. called h (frameCall (h .frame)) room (is ∙ accepted-step (h .frame) (h .buffer) (ltb-false (length (h .buffer)) answerRoom room)))
 
   -- the state that it leaves has an image again
   said-has : (h : HostCall) → AllBytes (h .frame) → HasImage (said (byHost .asked h) (stateAt image) .state)
   said-has h bytes =
-      by-if (λ (c : CallOption). HasImage (said c (stateAt image) .state)) (ltb (length (h .buffer)) 51)
+      by-if (λ (c : CallOption). HasImage (said c (stateAt image) .state)) (ltb (length (h .buffer)) answerRoom)
       (λ _. has)
       (λ _. frame-image (h .frame) (stateAt image) bytes has)
 
@@ -153,11 +176,16 @@ hosts-cut image [] next hc = tt
 hosts-cut image (h ∷ past) next (one, hc) = (one, hosts-cut (h .got .image) past next hc)
 
 -- the image that they leave
-point : (image : List ℕ) → AcceptedImage image → (past : List HostCall) → HostCalls image past → HostPoint (stateAt image) past (imageLeft image past)
+record Left (start : State) (past : List HostCall) (image : List ℕ) : Type 0 where
+  image-is : image ≡ imageOf (run (callsAmong byHost past) start)
+  accepted : AcceptedImage image
+  state-is : stateAt image ≡ run (callsAmong byHost past) start
+
+leaves : (image : List ℕ) → AcceptedImage image → (past : List HostCall) → HostCalls image past → Left (stateAt image) past (imageLeft image past)
 unfolding HostCalls imageLeft callsAmong run
-point image a [] hc = record { image-is = sym (writes-back image a); accepted = a; state-is = refl }
-point image a (h ∷ past) ((bytes, is), hc) =
-    let later : HostPoint (stateAt (h .got .image)) past (imageLeft (h .got .image) past) = point (h .got .image) (next-accepted image a h bytes is) past hc in
+leaves image a [] hc = record { image-is = sym (writes-back image a); accepted = a; state-is = refl }
+leaves image a (h ∷ past) ((bytes, is), hc) =
+    let later : Left (stateAt (h .got .image)) past (imageLeft (h .got .image) past) = leaves (h .got .image) (next-accepted image a h bytes is) past hc in
     let same : run (callsAmong byHost past) (stateAt (h .got .image)) ≡ run (callsAmong byHost (h ∷ past)) (stateAt image) =
     ap (run (callsAmong byHost past)) (next-state image a h bytes is) ∙ sym (run-said (byHost .asked h) (callsAmong byHost past) (stateAt image)) in
     record { image-is = later .image-is ∙ ap imageOf same; accepted = later .accepted; state-is = later .state-is ∙ same }
@@ -165,9 +193,18 @@ point image a (h ∷ past) ((bytes, is), hc) =
 pub host-demand3 : (image : List ℕ) → AcceptedImage image → (calls : List HostCall) → HostCalls image calls → HostClaim image calls
 host-demand3 image a calls hc =
     let s : (s : QoSScheduler) × ReadFrom image s = a-reading image a in
+    let whole : Asks byHost (stateAt image) (s .0) calls = asks byHost (fromImage image (s .1)) calls (hosts-chain image a calls hc) in
     record {
       scheduler = s .0;
       read-from = s .1;
-      asks = asks byHost (fromImage image (s .1)) calls (hosts-chain image a calls hc);
-      images = λ past next cut. point image a past (hosts-cut image past next (subst (HostCalls image) (sym cut) hc));
+      asks = whole;
+      points = λ past next cut.
+          let there : Left (stateAt image) past (imageLeft image past) = leaves image a past (hosts-cut image past next (subst (HostCalls image) (sym cut) hc)) in
+          let asked : AskedPoint byHost (stateAt image) (s .0) (whole .made) past next = whole .points past next cut in
+          record {
+            image-is = there .image-is;
+            accepted = there .accepted;
+            asked = asked;
+            stands-for = there .state-is ∙ sym (asked .point .states ∙ ap (λ (l : List Call). run l (stateAt image)) (asked .calls-are));
+          };
     }

@@ -28,7 +28,7 @@ use Rattle.frames.specs.declared.refusal.HostError.{HostError}
 use Rattle.frames.specs.declared.refusal.HostError.the-variants.{WrongLength, NotAccepted}
 use Rattle.frames.specs.AcceptedImage.{AcceptedImage, acceptsImage}
 use Rattle.frames.specs.Bytes.{part, IsNumber}
-use Rattle.frames.specs.Host.{imageStatus, readState, ReadAs, Reads}
+use Rattle.frames.specs.Host.{imageStatus, readState, ReadAs, ReadsImage}
 use Rattle.frames.specs.Image.{holdersPlace, microsPlace, imageLength, queuePlace, recordIn, recordAt, queueAt, lengthByte, stateAt}
 use Rattle.frames.proofs.AcceptedImages.{accepts-image, accepted-state}
 use Rattle.frames.proofs.Images.{length-tasks, task-read, queue-read}
@@ -152,10 +152,10 @@ module _ (image : List ℕ) where
 -- ---- the reader
 
 module _ {image : List ℕ} {st : ImageStatus} (is : st ≡ imageStatus image) where
-  pub read-accepted : {s : QoSScheduler} → st ≡ read.Accepted → ReadAs (stateAt image) s → Reads image (record { status = st; state = s })
+  pub read-accepted : {s : QoSScheduler} → st ≡ read.Accepted → ReadAs (stateAt image) s → ReadsImage image (record { status = st; state = s })
   read-accepted {s} e r = record { status-is = is; read-as = subst (λ (t : ImageStatus). ReadAs (readState t image) s) (sym e ∙ is) r }
 
-  pub read-refused : {s : QoSScheduler} {e : HostError} → st ≡ read.Refused e → IsNew s → Reads image (record { status = st; state = s })
+  pub read-refused : {s : QoSScheduler} {e : HostError} → st ≡ read.Refused e → IsNew s → ReadsImage image (record { status = st; state = s })
   read-refused {s} e new = record {
     status-is = is;
     read-as = subst (λ (t : ImageStatus). ReadAs (readState t image) s) (sym e ∙ is) (record { valid = new .valid; state-is = new .state-is });

@@ -7,7 +7,7 @@ use native.Mathlib.Omega.{arith}
 use native.Mathlib.Nat.{add-zero, add-suc, suc-add}
 use native.Mathlib.Numerals.{add-one}
 use lib.ListN.{length, getD, take, drop, set}
-use lib.Seq.{sets, sets-eq, set-comm, take-at, take-all, drop-cons, length-sets}
+use lib.Seq.{sets, sets-eq, set-comm, take-at, take-all, drop-cons, length-sets, getD-take}
 
 -- first some, then the rest behind them
 pub sets-append : (o : List ℕ) (at : ℕ) (a b : List ℕ) → sets o at (a ++ b) ≡ sets (sets o at a) (at + length a) b
@@ -37,6 +37,10 @@ sets-on o at k a h e =
 -- what was stored at the front stands there
 pub take-sets : (o a : List ℕ) → length a ≤ length o → take (length a) (sets o 0 a) ≡ a
 take-sets o a h = ap (take (length a)) (sets-eq a o 0 (omega (arith, h))) ∙ take-at a _ (length a) refl
+
+-- and is read there
+pub sets-read : (o a : List ℕ) (i : ℕ) → length a ≤ length o → i < length a → getD (sets o 0 a) i 0 ≡ getD a i 0
+sets-read o a i room h = sym (getD-take (length a) (sets o 0 a) i 0 h) ∙ ap (λ (l : List ℕ). getD l i 0) (take-sets o a room)
 
 -- a run that is as long as the buffer is all that is left
 pub sets-all : (o a : List ℕ) → length a ≡ length o → sets o 0 a ≡ a

@@ -1,8 +1,8 @@
--- Demand 3 for text: the answers to lines are a history's, one text at a time (`answer-text-demand3`) and however a text is cut into blocks
--- (`blocks-demand3`). Assumes nothing.
+-- Demand 3 for text: the answers to lines are a history's, of whoever calls `answer_text` again and again (`texts-demand3`), and of a text however it
+-- is cut into blocks (`blocks-demand3`). Assumes nothing.
 use mathlib.Core.Path.{_≡_, refl, sym, ap, subst, _∙_}
 use mathlib.Core.Bool.{Bool, _||_, _&&_}
-use mathlib.Core.List.{List, [], _∷_, _++_, map, flatten}
+use mathlib.Core.List.{List, [], _∷_, _++_, map, flatten, append-assoc}
 use Prim.Native.Nat.{ℕ, suc, _-_}
 use native.Mathlib.Omega.{arith}
 use lib.Dec.{leb}
@@ -13,10 +13,9 @@ use Rattle.scheduler.specs.Scheduler.{abs, IsNew}
 use Rattle.scheduler.specs.State.{State, newState}
 use Rattle.frames.specs.declared.decode.CallOption.{CallOption}
 use Rattle.frames.specs.declared.decode.CallOption.the-variants.{None, Some}
-use Rattle.frames.specs.declared.lines.Answered.{Answered}
-use Rattle.frames.specs.Asked.{Line, byLine, TextClaim}
+use Rattle.frames.specs.Asked.{Line, byLine, TextClaim, TextCall, TextCalls, Used, textOf, TextsClaim}
 use Rattle.frames.specs.Blocks.{inBlocks}
-use Rattle.frames.specs.Lines.{lineOf, lineCall, said, saidTo, lineText, pieces, closed, answerTo, stateAfter, answersTo, Reached, answeredInRoom, Answers}
+use Rattle.frames.specs.Lines.{lineOf, lineCall, said, saidTo, lineText, pieces, closed, answerTo, stateAfter, answersTo, Reached, answeredInRoom}
 use Rattle.frames.specs.Start.{Start, fromNew, startState}
 use Rattle.frames.proofs.Demand3.{start-as}
 use Rattle.frames.proofs.Follows.{SaysAt, Chain, asks}
@@ -58,33 +57,67 @@ text-demand3 {s} start ps = record {
   asks = asks byLine start (answered (startState start) ps) (answered-chain (startState start) ps);
 }
 
+-- ---- `answer_text`, again and again
+
+-- the state after some pieces, and the answers to them and to others behind them
+unfoldable afterAll : State → List (List ℕ) → State
+afterAll s [] = s
+afterAll s (piece ∷ rest) = afterAll (stateAfter piece s) rest
+
+answersTo-append : (s : State) (ps qs : List (List ℕ)) → answersTo s (ps ++ qs) ≡ answersTo s ps ++ answersTo (afterAll s ps) qs
+unfolding answersTo afterAll
+answersTo-append s [] qs = refl
+answersTo-append s (piece ∷ ps) qs =
+    ap (λ (l : List ℕ). answerTo piece s ++ l) (answersTo-append (stateAfter piece s) ps qs) ∙ sym (append-assoc (answerTo piece s) (answersTo (stateAfter piece s) ps) _)
+
 -- as many lines as have room are the first of them
 record Firsts (s : State) (ps : List (List ℕ)) (r : Reached) : Type 0 where
   n : ℕ
   text-is : r .text ≡ answersTo s (take n ps)
   used-is : r .used ≡ length (flatten (take n ps))
+  state-is : r .state ≡ afterAll s (take n ps)
 
 firsts : (last : Bool) (room : ℕ) (s : State) (ps : List (List ℕ)) → Firsts s ps (answeredInRoom last room s ps)
-unfolding answeredInRoom answersTo flatten
-firsts last room s [] = record { n = 0; text-is = refl; used-is = refl }
+unfolding answeredInRoom answersTo afterAll flatten
+firsts last room s [] = record { n = 0; text-is = refl; used-is = refl; state-is = refl }
 firsts last room s (piece ∷ rest) =
     by-if (Firsts s (piece ∷ rest)) ((last || closed piece) && leb (length (answerTo piece s)) room)
     (λ _. let later = firsts last (room - length (answerTo piece s)) (stateAfter piece s) rest in record {
       n = suc (later .n);
       text-is = ap (λ (l : List ℕ). answerTo piece s ++ l) (later .text-is);
       used-is = omega (arith, later .used-is, length-append piece (flatten (take (later .n) rest)));
+      state-is = later .state-is;
     })
-    (λ _. record { n = 0; text-is = refl; used-is = refl })
+    (λ _. record { n = 0; text-is = refl; used-is = refl; state-is = refl })
 
--- what one call of `answer_text` wrote: the answers to the first n of the text's lines, which are what it used
-pub answer-text-demand3 : {last : Bool} {s : QoSScheduler} {input before after : List ℕ} {r : Answered} (start : Start s) → Answers last s input before after r →
-    (n : ℕ) × ((r .used ≡ length (flatten (take n (pieces input)))) × TextClaim (startState start) s (take n (pieces input)) (take (r .written) after))
-answer-text-demand3 {last} {s} {input} {before} {after} {r} start a =
-    let f : Firsts (abs s) (pieces input) (answeredInRoom last (length before) (abs s) (pieces input)) = firsts last (length before) (abs s) (pieces input) in
-    let ps : List (List ℕ) = take (f .n) (pieces input) in
-    let text : take (r .written) after ≡ answersTo (startState start) ps =
-    written-out last a ∙ f .text-is ∙ ap (λ (t : State). answersTo t ps) (start-as start .state-is) in
-    (f .n, (a .used-is ∙ f .used-is, subst (TextClaim (startState start) s ps) (sym text) (text-demand3 start ps)))
+-- the lines that a list of calls answered, and what it wrote
+record Wrote (s : QoSScheduler) (calls : List TextCall) : Type 0 where
+  answered : List (List ℕ)
+  used : Used calls answered
+  text-is : textOf calls ≡ answersTo (abs s) answered
+
+wrote : (s : QoSScheduler) (calls : List TextCall) → TextCalls s calls → Wrote s calls
+unfolding TextCalls Used answersTo flatten
+wrote s [] tc = record { answered = []; used = refl; text-is = refl }
+wrote s (t ∷ rest) (now, tc) =
+    let later : Wrote (t .got .state) rest = wrote (t .got .state) rest tc in
+    let r : Reached = answeredInRoom (t .last) (length (t .before)) (abs s) (pieces (t .input)) in
+    let f : Firsts (abs s) (pieces (t .input)) r = firsts (t .last) (length (t .before)) (abs s) (pieces (t .input)) in
+    let ps : List (List ℕ) = take (f .n) (pieces (t .input)) in
+    let first-text : take (t .got .written) (t .after) ≡ answersTo (abs s) ps = written-out (t .last) now ∙ f .text-is in
+    let others : textOf rest ≡ answersTo (afterAll (abs s) ps) (later .answered) =
+    later .text-is ∙ ap (λ (u : State). answersTo u (later .answered)) (now .state-is ∙ f .state-is) in
+    record {
+      answered = ps ++ later .answered;
+      used = (f .n, (later .answered, (refl, (now .used-is ∙ f .used-is, later .used))));
+      text-is = (λ i. first-text i ++ others i) ∙ sym (answersTo-append (abs s) ps (later .answered));
+    }
+
+pub texts-demand3 : {s : QoSScheduler} (start : Start s) (calls : List TextCall) → TextCalls s calls → TextsClaim (startState start) s calls
+texts-demand3 {s} start calls tc =
+    let w : Wrote s calls = wrote s calls tc in
+    let text : textOf calls ≡ answersTo (startState start) (w .answered) = w .text-is ∙ ap (λ (u : State). answersTo u (w .answered)) (start-as start .state-is) in
+    record { answered = w .answered; used = w .used; claim = subst (TextClaim (startState start) s (w .answered)) (sym text) (text-demand3 start (w .answered)) }
 
 -- a text that is read in blocks, from a new scheduler on, as the program `calls` answers it
 pub blocks-demand3 : (s : QoSScheduler) → IsNew s → (blocks : List (List ℕ)) → TextClaim newState s (pieces (flatten blocks)) (inBlocks newState [] blocks)

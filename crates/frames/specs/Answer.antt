@@ -1,6 +1,7 @@
 -- Document 01, "Call frames": the bytes of an answer. `paper` lists its numbers; here each has its width.
 use mathlib.Core.List.{List, [], _∷_}
 use Prim.Native.Nat.{ℕ}
+use lib.ListN.{getD}
 use Rattle.records.specs.declared.task.TaskControlBlock.{TaskControlBlock}
 use Rattle.scheduler.specs.declared.answer.Answer.{Answer}
 use Rattle.scheduler.specs.declared.answer.PlanOption.{PlanOption}
@@ -49,3 +50,7 @@ valueBytes v = written (valueWidths v) (valueNumbers v)
 -- "An answer is status (0 or the refusal), pick slot and pick band (ff ff for none), then the value"
 unfoldable pub answerBytes : Answer → List ℕ
 answerBytes a = written (1 ∷ 1 ∷ 1 ∷ valueWidths (a .value)) (paper a)
+
+-- "pick slot and pick band (ff ff for none)", as they stand behind the status
+abbrev pub pickIn : List ℕ → List ℕ
+pickIn bytes = getD bytes 1 0 ∷ getD bytes 2 0 ∷ []

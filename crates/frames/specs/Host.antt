@@ -35,6 +35,14 @@ hostNumber WrongLength = 7
 hostNumber NotAccepted = 8
 hostNumber NoFrame = 9
 
+-- "256 plus refusal 7, 8 or 9"
+abbrev pub refusalReturned : HostError → ℕ
+refusalReturned e = 256 + hostNumber e
+
+-- an "answer buffer under 51" is refused
+abbrev pub answerRoom : ℕ
+answerRoom = 51
+
 -- ---- reading an image
 
 -- 7 "image not 3,275 bytes", then 8 "not accepted"
@@ -54,7 +62,7 @@ pub record ReadAs (s : State) (r : QoSScheduler) : Type 0 where
   pub state-is : abs r ≡ s
 
 -- what the reader promises of any bytes
-pub record Reads (image : List ℕ) (r : ImageRead) : Type 0 where
+pub record ReadsImage (image : List ℕ) (r : ImageRead) : Type 0 where
   pub status-is : r .status ≡ imageStatus image
   pub read-as : ReadAs (readState (imageStatus image) image) (r .state)
 
@@ -65,17 +73,16 @@ pub record OnImage : Type 0 where
   pub answer : ImageAnswer
   pub image : List ℕ
 
+abbrev pub onImage : ImageAnswer → List ℕ → OnImage
+onImage answer image = record { answer = answer; image = image }
+
 -- "the image then holds the state after the call"; refused images stay as they are
 abbrev pub calledOn : ImageStatus → Call → List ℕ → OnImage
-calledOn (read.Refused e) call image = record { answer = told.Refused e; image = image }
-calledOn read.Accepted call image = record {
-  answer = told.Answered (step call (stateAt image) .answer);
-  image = imageOf (step call (stateAt image) .state);
-}
+calledOn (read.Refused e) call image = onImage (told.Refused e) image
+calledOn read.Accepted call image = onImage (told.Answered (step call (stateAt image) .answer)) (imageOf (step call (stateAt image) .state))
 
-pub record CallsOnImage (call : Call) (before after : List ℕ) (r : ImageAnswer) : Type 0 where
-  pub answer-is : r ≡ calledOn (imageStatus before) call before .answer
-  pub image-is : after ≡ calledOn (imageStatus before) call before .image
+unfoldable pub callOnImage : Call → List ℕ → OnImage
+callOnImage call image = calledOn (imageStatus image) call image
 
 -- ---- a frame on an image
 
@@ -90,7 +97,7 @@ hosted n image answer = record { returned = n; image = image; answer = answer }
 
 -- "or 256 plus refusal 7, 8 or 9"; "7, 8 and 9 at the host entry leave the answer buffer too"
 abbrev pub hostRefused : HostError → List ℕ → List ℕ → Hosted
-hostRefused e image answer = hosted (256 + hostNumber e) image answer
+hostRefused e image answer = hosted (refusalReturned e) image answer
 
 -- "It gets the answer's length [..]; the image then holds the state after the call, and buffer bytes past the answer keep their contents."
 abbrev pub hostAnswered : Outcome → List ℕ → Hosted
@@ -103,7 +110,7 @@ hostCalled (Some call) image answer = hostAnswered (step call (stateAt image)) a
 
 -- 7: "image not 3,275 bytes, or answer buffer under 51"
 abbrev pub wrongLength : List ℕ → List ℕ → Bool
-wrongLength image answer = not (eqb (length image) imageLength) || ltb (length answer) 51
+wrongLength image answer = not (eqb (length image) imageLength) || ltb (length answer) answerRoom
 
 -- the table: lengths, image, frame, call
 unfoldable pub hostStep : List ℕ → List ℕ → List ℕ → Hosted

@@ -37,10 +37,14 @@ pub record Said : Type 0 where
   pub bytes : List ℕ
   pub state : State
 
+-- 9, and no pick
+abbrev pub noFrame : List ℕ
+noFrame = 9 ∷ noneByte ∷ noneByte ∷ []
+
 -- A frame that is refused: 9, "bad digit, unknown call, wrong length, band above 2", and "pick slot and pick band (ff ff for none)". "Refused: no
 -- value." "A refusal changes no state."
 abbrev pub said : CallOption → State → Said
-said None s = record { bytes = 9 ∷ noneByte ∷ noneByte ∷ []; state = s }
+said None s = record { bytes = noFrame; state = s }
 said (Some call) s = record { bytes = answerBytes (step call s .answer); state = step call s .state }
 
 -- what a line makes of a state

@@ -9,14 +9,14 @@ use Rattle.scheduler.specs.Scheduler.{IsNew}
 use Rattle.scheduler.specs.State.{State, newState}
 use Rattle.frames.specs.declared.read.ImageRead.{ImageRead}
 use Rattle.frames.specs.AcceptedImage.{AcceptedImage}
-use Rattle.frames.specs.Host.{Reads}
+use Rattle.frames.specs.Host.{ReadsImage}
 use Rattle.frames.specs.Image.{stateAt}
 
 -- "from the state read from an accepted image": the scheduler in what the reader made of one
 pub record ReadFrom (image : List ℕ) (s : QoSScheduler) : Type 0 where
   pub accepted : AcceptedImage image
   pub read : ImageRead
-  pub reads : Reads image read
+  pub reads : ReadsImage image read
   pub state-is : read .state ≡ s
 
 -- "It starts from new or from the state read from an accepted image": what `new` ensures, or what `read_image` ensures of an accepted image

@@ -1,8 +1,7 @@
 // The host entry: a call on an image, and a frame on an image with its answer in a buffer.
 ghost use mathlib.Core.Path.{_≡_};
-ghost use Prim.Native.Nat.{_+_};
 ghost use Rattle.scheduler.specs.Scheduler.{abs, Valid};
-ghost use Rattle.frames.specs.Host.{hostNumber, refusalOf, storedFor, CallsOnImage, hosted, hostStep};
+ghost use Rattle.frames.specs.Host.{refusalReturned, refusalOf, storedFor, onImage, callOnImage, hosted, hostStep};
 use crate::decode::CallOption;
 use crate::decode::read_frame;
 use crate::encode::ANSWER_MAX;
@@ -30,7 +29,7 @@ const REFUSED: u64 = 256;
 
 // A frame done on an image, and its answer at the front of a buffer: how many bytes it has, or 256 and the refusal. Any
 // image, frame and buffer will do. 7: the image does not have IMAGE_BYTES bytes, or the buffer has under ANSWER_MAX. 8: the
-// image is not accepted. 9: the frame is none. After these, image and buffer are as they were. Else the image holds the
+// image is not accepted. 9: the bytes are no frame. After these, image and buffer are as they were. Else the image holds the
 // state after the call, as it was where the answer is a refusal; bytes of the buffer behind the answer stay.
 #[no_mangle]
 pub extern "C" fn step(image: &mut [u8], frame: &[u8], answer: &mut [u8]) -> u64
@@ -50,7 +49,7 @@ pub extern "C" fn step(image: &mut [u8], frame: &[u8], answer: &mut [u8]) -> u64
 
 // What a host gets for a refusal.
 fn refused(error: HostError) -> u64
-    ensures { λ r. ⌜ r ≡ 256 + hostNumber error ⌝ }
+    ensures { λ r. ⌜ r ≡ refusalReturned error ⌝ }
 {
     REFUSED + error.code()
 }
@@ -68,7 +67,7 @@ fn without_call(image: &[u8]) -> HostError
 // A call on any bytes. A refused image is left as it was; an accepted one holds the state after the call, and is not
 // touched where the call is refused.
 pub fn call_on_image(image: &mut [u8], call: Call) -> ImageAnswer
-    ensures { λ r. ⌜ CallsOnImage call (now (image .entry)) (now (image .exit)) r ⌝ }
+    ensures { λ r. ⌜ onImage r (now (image .exit)) ≡ callOnImage call (now (image .entry)) ⌝ }
 {
     let read = read_image(image);
     let status = read.status;

@@ -5,7 +5,7 @@ ghost use Rattle.queue.specs.Stored.{Holds};
 ghost use Rattle.scheduler.specs.Scheduler.{Hold};
 ghost use Rattle.scheduler.specs.State.{queue};
 ghost use Rattle.frames.specs.AcceptedImage.{AcceptedImage};
-ghost use Rattle.frames.specs.Host.{imageStatus, Reads, ReadAs};
+ghost use Rattle.frames.specs.Host.{imageStatus, ReadsImage, ReadAs};
 ghost use Rattle.frames.specs.Image.{imageLength, stateAt};
 use crate::accept::accepts_image;
 use crate::accept::length_byte;
@@ -41,7 +41,7 @@ pub struct ImageRead {
 
 // The scheduler that an image stands for, from any bytes.
 pub fn read_image(image: &[u8]) -> ImageRead
-    ensures { λ r. ⌜ Reads (now (image .entry)) r ⌝ }
+    ensures { λ r. ⌜ ReadsImage (now (image .entry)) r ⌝ }
 {
     let status = check_image(image);
     match status {

@@ -5,6 +5,7 @@ ghost use Rattle.frames.specs.Host.{hostNumber};
 // The refusal of bytes that are no frame, in text and at the host entry.
 pub(crate) const NO_FRAME: u64 = 9;
 
+// Why no call was made.
 pub enum HostError {
     // 7: the image does not have IMAGE_BYTES bytes, or the answer buffer has under ANSWER_MAX.
     WrongLength,

@@ -23,7 +23,7 @@ use Rattle.scheduler.specs.Scheduler.{queuesOf, abs, Valid, IsNew, Meets
 use Rattle.scheduler.specs.History.{Made, History, left, callsOf, happened, stretchIn, outcomeOf, CodePoint, CodeClaim}
 use Rattle.scheduler.proofs.Calls.{new-accepted, call-accepted}
 use Rattle.scheduler.proofs.Stretches.{longest}
-use Rattle.scheduler.proofs.Waiting.{demand3}
+use Rattle.scheduler.proofs.Waiting.{rules-demand3}
 
 -- ---- what a history leaves, and where it is cut
 
@@ -84,7 +84,7 @@ next-meets s next h a more is = subst (History s) is h .0
 -- what is claimed of the rules at a point, told of the scheduler there
 rules-there : (s : QoSScheduler) → Valid s → (past next : List Made) → History s past → Point (abs (left s past)) (callsOf next)
 rules-there s v past next h =
-    rw (left-is s past h) (demand3 (abs s) (v .accepted) (callsOf past ++ callsOf next) (callsOf past) (callsOf next) refl)
+    rw (left-is s past h) (rules-demand3 (abs s) (v .accepted) (callsOf past ++ callsOf next) (callsOf past) (callsOf next) refl)
 
 code-point : (s : QoSScheduler) → Valid s → (past next : List Made) → History s past → History (left s past) next →
     CodePoint (abs s) (callsOf past) (left s past) next

@@ -106,9 +106,9 @@ point s k next = record {
 }
 
 -- from every accepted state
-pub demand3 : (s : State) → Accepted s → (calls : List Call) → Claim s calls
-demand3 s a calls past next cut-here = point (run past s) (run-invariant past s (accepted-invariant s a)) next
+pub rules-demand3 : (s : State) → Accepted s → (calls : List Call) → Claim s calls
+rules-demand3 s a calls past next cut-here = point (run past s) (run-invariant past s (accepted-invariant s a)) next
 
 -- from new
-pub demand3-new : (calls : List Call) → Claim newState calls
-demand3-new calls = demand3 newState new-accepted calls
+pub rules-demand3-new : (calls : List Call) → Claim newState calls
+rules-demand3-new calls = rules-demand3 newState new-accepted calls
