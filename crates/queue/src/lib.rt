@@ -45,7 +45,7 @@ impl BandQueue {
     }
 
     // The queue that an image's 64 places and its length stand for: the first `len` of them are its entries, from the front
-    // on; none has more than 64.
+    // on. A `len` above 64 stands for all 64.
     pub fn from_places(places: [u8; MAX_TASKS], len: usize) -> Self
         ensures { λ r. ⌜ Holds r (take len places) ⌝ }
     {
