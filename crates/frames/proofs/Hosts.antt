@@ -28,7 +28,8 @@ use Rattle.frames.specs.declared.refusal.HostError.{HostError}
 use Rattle.frames.specs.declared.refusal.HostError.the-variants.{WrongLength, NoFrame}
 use Rattle.frames.specs.AcceptedImage.{AcceptedImage, acceptsImage}
 use Rattle.frames.specs.Answer.{answerBytes, pickIn}
-use Rattle.frames.specs.Asked.{callsAmong, AskedPoint, Asks, HostCall, HostCalls, imageLeft, refusalTo, byHost, HostClaim}
+use Rattle.frames.specs.Asked.{callsAmong, AskedPoint, Asks}
+use Rattle.frames.specs.HostClaim.{HostCall, HostCalls, imageLeft, refusalTo, byHost, HostClaim}
 use Rattle.frames.specs.Bytes.{AllBytes, bytesOf}
 use Rattle.frames.specs.Fits.{FitsCall, HasImage}
 use Rattle.frames.specs.Frame.{frameCall}

@@ -13,7 +13,7 @@ use Rattle.scheduler.specs.Scheduler.{abs, IsNew}
 use Rattle.scheduler.specs.State.{State, newState}
 use Rattle.frames.specs.declared.decode.CallOption.{CallOption}
 use Rattle.frames.specs.declared.decode.CallOption.the-variants.{None, Some}
-use Rattle.frames.specs.Asked.{Line, byLine, TextClaim, TextCall, TextCalls, Used, textOf, TextsClaim}
+use Rattle.frames.specs.TextClaim.{Line, byLine, TextClaim, TextCall, TextCalls, Used, textOf, TextsClaim}
 use Rattle.frames.specs.Blocks.{inBlocks}
 use Rattle.frames.specs.Lines.{lineOf, lineCall, said, saidTo, lineText, pieces, closed, answerTo, stateAfter, answersTo, Reached, answeredInRoom}
 use Rattle.frames.specs.Start.{Start, fromNew, startState}

@@ -11,7 +11,9 @@
 --   ImageParts      what the writer of images promises, and the parts of writer and test
 --   Host            what the reader of images, a call on an image and the host entry promise
 --   Start           demand 3, whole: from new and from an accepted image
---   Asked           demand 3 for lines of text, and for a host that calls again and again on one image
+--   Asked           requests as the calls of a history
+--   TextClaim       demand 3 for lines of text
+--   HostClaim       demand 3 for a host that calls again and again on one image
 pub mod Bytes
 pub mod Hex
 pub mod Frame
@@ -25,3 +27,5 @@ pub mod ImageParts
 pub mod Host
 pub mod Start
 pub mod Asked
+pub mod TextClaim
+pub mod HostClaim

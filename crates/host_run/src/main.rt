@@ -1,11 +1,13 @@
 // Drives the host entry with raw frames, as a host kernel passes them: document 01's five frames on a new image, every call
 // and query on a busy scheduler's image, and every refusal. A line has what was passed and the answer buffer's length, the
-// number returned, the answer, and whether the image and the bytes past the answer are as they were.
+// number returned, the answer, and whether the image and the bytes past the answer are as they were. Images are also read,
+// and called on, without a frame.
 ghost use Rattle.scheduler.specs.Scheduler.{Valid};
 
 mod answers;
 mod parts;
 mod passing;
+mod reading;
 mod refusals;
 mod show;
 mod states;
@@ -27,6 +29,8 @@ use passing::create_frame;
 use passing::same;
 use passing::stepped;
 use passing::written;
+use reading::calls_on_images;
+use reading::images_read;
 use refusals::bad_frames;
 use refusals::bad_images;
 use refusals::bad_lengths;
@@ -52,6 +56,8 @@ fn main() {
     largest_sums(image);
     queries(image);
     one_buffer(image);
+    images_read(image, new);
+    calls_on_images(image);
     bad_lengths(image);
     bad_images(image);
     bad_frames(image);

@@ -1,6 +1,8 @@
 // An image's parts, as document 01 has them: records of 47 bytes, queues of 65, holders, microseconds.
 use crate::show::show_part;
 
+// An image's length. This and the places below are document 01's own numbers and not the constants of `frames`, so that the
+// program checks those.
 pub(crate) const IMAGE: usize = 3275;
 
 // Where the records of slots 1 to 5 and 63 begin.

@@ -1,4 +1,9 @@
-// What the program prints: what the host entry made of a frame, a part of an image, or yes or no, each on a line of its own.
+// What the program prints: what the host entry made of a frame, what was made of an image without one, a part of an image,
+// or yes or no, each on a line of its own.
+use frames::HostError;
+use frames::ImageAnswer;
+use frames::ImageStatus;
+use frames::write_answer;
 use libc::STDOUT_FILENO;
 
 // What a buffer is filled with before it is passed.
@@ -21,6 +26,32 @@ pub(crate) fn show_step(what: &[u8], room: usize, returned: u64, buffer: &[u8], 
     print_kept(image_kept);
     print(b", rest");
     print_kept(marked_from(buffer, n));
+    print(b"\n");
+}
+
+// A line with the bytes that were read, and what the check and the reader said of them.
+pub(crate) fn show_read(what: &[u8], checked: ImageStatus, read: ImageStatus) {
+    print(what);
+    print(b", checked:");
+    print_status(checked);
+    print(b", read:");
+    print_status(read);
+    print(b"\n");
+}
+
+// A line with a call on an image, and its answer or the image's refusal.
+pub(crate) fn show_called(what: &[u8], came_to: ImageAnswer) {
+    print(what);
+    print(b":");
+    match came_to {
+        ImageAnswer::Refused(error) => print_refused(error),
+        ImageAnswer::Answered(told) => {
+            let mut buffer = [MARK; 51];
+            let n = write_answer(told, &mut buffer);
+            print(b" answer ");
+            print_first(&buffer, n);
+        }
+    }
     print(b"\n");
 }
 
@@ -51,6 +82,18 @@ fn answer_length(returned: u64) -> usize {
     } else {
         0
     }
+}
+
+fn print_status(status: ImageStatus) {
+    match status {
+        ImageStatus::Accepted => print(b" accepted"),
+        ImageStatus::Refused(error) => print_refused(error),
+    }
+}
+
+fn print_refused(error: HostError) {
+    print(b" refused with ");
+    print_number(error.code());
 }
 
 fn print_answer(buffer: &[u8], n: usize) {
