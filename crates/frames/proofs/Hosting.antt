@@ -8,6 +8,7 @@ use borrow.Author.Tests.{lt-ltb, le-ltb, eq-eqb}
 use lib.Dec.{eqb}
 use lib.ListN.{length}
 use lib.Seq.{sets}
+use Rattle.records.specs.declared.error.SchedError.{SchedError}
 use Rattle.scheduler.specs.declared.answer.Answer.{Answer}
 use Rattle.scheduler.specs.declared.answer.Status.{Status}
 use Rattle.scheduler.specs.declared.answer.Status.the-variants as status
@@ -44,7 +45,7 @@ hostNumber-small NoFrame = omega arith
 -- ---- a call on an image
 
 -- "a refused call changes neither state nor image": the image of the state that a refused call leaves is the image itself
-pub refused-image : (image : List ℕ) → AcceptedImage image → (call : Call) {e : _} → step call (stateAt image) .answer .status ≡ status.Refused e →
+pub refused-image : (image : List ℕ) → AcceptedImage image → (call : Call) {e : SchedError} → step call (stateAt image) .answer .status ≡ status.Refused e →
     imageOf (step call (stateAt image) .state) ≡ image
 refused-image image a call {e} is = ap (λ (o : Outcome). imageOf (o .state)) (refused-whole call (stateAt image) e is) ∙ writes-back image a
 

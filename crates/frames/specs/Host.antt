@@ -51,7 +51,7 @@ imageStatus image =
     cond (not (eqb (length image) imageLength)) (read.Refused WrongLength)
     (cond (not (acceptsImage image)) (read.Refused NotAccepted) read.Accepted)
 
--- the state that an accepted image stands for; a refused one is handed back as the new state
+-- the state that an accepted image stands for; the new state, where the image is refused
 abbrev pub readState : ImageStatus → List ℕ → State
 readState read.Accepted image = stateAt image
 readState (read.Refused e) image = newState

@@ -1,10 +1,10 @@
 // Acceptance: whether bytes are an image that document 01 accepts, in time linear in their number.
 ghost use mathlib.Core.Path.{_≡_};
-ghost use Prim.Native.Nat.{_+_, _≤_, _<_};
+ghost use Prim.Native.Nat.{_≤_, _<_};
 ghost use lib.ListN.{length};
 ghost use Rattle.scheduler.specs.Accepted.{every, everyBelow, readyOf, onceIfReady, standsOnce};
 ghost use Rattle.scheduler.specs.State.{bandOrder, task, queue};
-ghost use Rattle.frames.specs.Image.{queueLength, queuePlace, holdersPlace, imageLength, recordAt, queueAt, lengthByte, slotByte, stateAt};
+ghost use Rattle.frames.specs.Image.{imageLength, queueAt, lengthByte, stateAt};
 ghost use Rattle.frames.specs.AcceptedImage.{acceptsImage, slotFits, placeFits, bandFits, coreFits};
 ghost use Rattle.frames.specs.ImageParts.{LengthsFit, AtMost, Counted};
 use crate::fields::band_in;
@@ -13,9 +13,9 @@ use crate::fields::may_hold;
 use crate::fields::record_fits;
 use crate::layout::HOLDERS_AT;
 use crate::layout::IMAGE_BYTES;
-use crate::layout::QUEUE_BYTES;
-use crate::layout::QUEUES_AT;
-use crate::layout::RECORD_BYTES;
+use crate::parts::length_byte;
+use crate::parts::record_at;
+use crate::parts::slot_byte;
 use records::MAX_CPUS;
 use records::MAX_TASKS;
 use records::QoSClass;
@@ -67,16 +67,6 @@ fn slot_fits(image: &[u8], slot: usize) -> bool
     record_fits(record_at(image, slot))
 }
 
-// A slot's record, as that part of the image.
-pub(crate) fn record_at(image: &[u8], slot: usize) -> &[u8]
-    requires { ⌜ length (now image) ≡ imageLength ⌝ }
-    requires { ⌜ slot < 64 ⌝ }
-    ensures { λ r. ⌜ now r ≡ recordAt slot (now (image .entry)) ⌝ }
-{
-    let at = RECORD_BYTES * slot;
-    &image[at..at + RECORD_BYTES]
-}
-
 // ---- the queues
 
 // Whether every band's queue fits.
@@ -109,30 +99,6 @@ fn band_fits(image: &[u8], band: QoSClass) -> bool
         place += 1;
     }
     true
-}
-
-// How many entries a band's queue has, by the image.
-pub(crate) fn length_byte(image: &[u8], band: QoSClass) -> usize
-    requires { ⌜ length (now image) ≡ imageLength ⌝ }
-    ensures { λ r. ⌜ r ≡ lengthByte (queueAt band (now (image .entry))) ⌝ }
-{
-    image[queue_at(band)] as usize
-}
-
-// What stands at one of the 64 places of a band's queue.
-fn slot_byte(image: &[u8], band: QoSClass, place: usize) -> usize
-    requires { ⌜ length (now image) ≡ imageLength ⌝ }
-    requires { ⌜ place < 64 ⌝ }
-    ensures { λ r. ⌜ r ≡ slotByte place (queueAt band (now (image .entry))) ⌝ }
-{
-    image[queue_at(band) + 1 + place] as usize
-}
-
-// Where a band's queue begins; all its bytes stand before the holders.
-pub(crate) fn queue_at(band: QoSClass) -> usize
-    ensures { λ r. ⌜ (r ≡ queuePlace band) × (r + queueLength ≤ holdersPlace) ⌝ }
-{
-    QUEUES_AT + QUEUE_BYTES * band.code() as usize
 }
 
 // Whether a place of a queue holds an entry, or is unused and 0.

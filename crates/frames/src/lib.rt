@@ -8,6 +8,7 @@
 //   lines    the next line of a text, its call, and the answers to a whole text
 //   blocks   what has to be kept of a text that is read in blocks
 //   layout   where each part of a record and of an image stands
+//   parts    the parts of an image
 //   fields   what a record's bytes say, and what is asked of them
 //   image    a scheduler's image, written into a lent buffer
 //   accept   whether bytes are an image that is accepted
@@ -29,6 +30,7 @@ mod host;
 mod image;
 mod layout;
 mod lines;
+mod parts;
 mod read;
 mod refusal;
 

@@ -3,8 +3,8 @@ use Prim.Native.Nat.{_+_}
 use native.Mathlib.Omega.{arith}
 use Rattle.frames.proofs.Accepting.{slot-read}
 use borrow.Author.Needs.{needs}
-use Rattle.frames.proofs.accept.slot_byte.Statement.{statement}
-use Rattle.frames.proofs.accept.slot_byte.Tie as tie
+use Rattle.frames.proofs.parts.slot_byte.Statement.{statement}
+use Rattle.frames.proofs.parts.slot_byte.Tie as tie
 
 cast-result : tie.Need-cast-result
 cast-result c = omega (arith, c .shared-slice-known2 .given (c .before .queue-at .result + 1 + c .before .before .before .args .place))

@@ -2,8 +2,8 @@
 use native.Mathlib.Omega.{arith}
 use Rattle.frames.proofs.Accepting.{length-read}
 use borrow.Author.Needs.{needs}
-use Rattle.frames.proofs.accept.length_byte.Statement.{statement}
-use Rattle.frames.proofs.accept.length_byte.Tie as tie
+use Rattle.frames.proofs.parts.length_byte.Statement.{statement}
+use Rattle.frames.proofs.parts.length_byte.Tie as tie
 
 cast-result : tie.Need-cast-result
 cast-result c = omega (arith, c .shared-slice-known2 .given (c .before .queue-at .result))

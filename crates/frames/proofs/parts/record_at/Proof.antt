@@ -4,8 +4,8 @@ use Prim.Native.Nat.{_+_, _-_, _*_}
 use native.Mathlib.Omega.{arith}
 use lib.ListN.{take, drop}
 use borrow.Author.Needs.{needs}
-use Rattle.frames.proofs.accept.record_at.Statement.{statement}
-use Rattle.frames.proofs.accept.record_at.Tie as tie
+use Rattle.frames.proofs.parts.record_at.Statement.{statement}
+use Rattle.frames.proofs.parts.record_at.Tie as tie
 
 returns : tie.Need-returns
 returns c =
