@@ -1,4 +1,4 @@
--- The host entry: each way out of a call on an image, and of `step`, by the image's status. Assumes nothing.
+-- The host's entries: each way out of `new_image`, of a call on an image and of `step`. Assumes nothing.
 use mathlib.Core.Path.{_≡_, refl, sym, ap, _∙_}
 use mathlib.Core.Bool.{Bool, true, false, cond, not, _||_, or-true}
 use mathlib.Core.List.{List}
@@ -16,7 +16,7 @@ use Rattle.scheduler.specs.declared.call.Call.{Call}
 use Rattle.scheduler.specs.declared.scheduler.Reply.{Reply}
 use Rattle.scheduler.specs.Outcome.{Outcome}
 use Rattle.scheduler.specs.Scheduler.{abs, Meets}
-use Rattle.scheduler.specs.State.{State}
+use Rattle.scheduler.specs.State.{State, newState}
 use Rattle.scheduler.specs.Step.{step}
 use Rattle.scheduler.proofs.Refusals.{refused-whole}
 use Rattle.frames.specs.declared.decode.CallOption.{CallOption}
@@ -32,8 +32,9 @@ use Rattle.frames.specs.AcceptedImage.{AcceptedImage, acceptsImage}
 use Rattle.frames.specs.Answer.{answerBytes}
 use Rattle.frames.specs.Bytes.{Puts}
 use Rattle.frames.specs.Frame.{frameCall}
-use Rattle.frames.specs.Host.{hostNumber, refusalReturned, answerRoom, imageStatus, readState, ReadsImage, OnImage, onImage, calledOn, callOnImage, Hosted, hosted, hostRefused, hostCalled, hostStep, refusalIn, storedFor}
+use Rattle.frames.specs.Host.{hostNumber, refusalReturned, answerRoom, imageStatus, readState, ReadsImage, OnImage, onImage, calledOn, callOnImage, made, hostNew, Hosted, hosted, hostRefused, hostCalled, hostStep, refusalIn, storedFor}
 use Rattle.frames.specs.Image.{imageLength, imageOf, stateAt}
+use Rattle.frames.specs.ImageParts.{WritesImage}
 use Rattle.frames.proofs.Images.{writes-back}
 use Rattle.frames.proofs.Readings.{status-says}
 
@@ -41,6 +42,25 @@ pub hostNumber-small : (e : HostError) → hostNumber e ≤ 9
 hostNumber-small WrongLength = omega arith
 hostNumber-small NotAccepted = omega arith
 hostNumber-small NoFrame = omega arith
+
+-- ---- a new image
+
+-- what `new_image` gets from the writer, in either case of its test
+pub new-made : {s : State} {before after : List ℕ} {r : Bool} → s ≡ newState → WritesImage s before after r →
+    made (cond r 0 (refusalReturned WrongLength)) after ≡ hostNew before
+unfolding hostNew
+new-made {s} {before} new writes =
+    (λ i. made (cond (writes .done-is i) 0 (refusalReturned WrongLength)) (writes .image-is i))
+    ∙ ap (λ t. made (cond fits 0 (refusalReturned WrongLength)) (cond fits (imageOf t) before)) new
+    ∙ either fits
+  where
+    fits : Bool
+    fits = eqb (length before) imageLength
+
+    either : (t : Bool) → made (cond t 0 (refusalReturned WrongLength)) (cond t (imageOf newState) before)
+        ≡ cond t (made 0 (imageOf newState)) (made (refusalReturned WrongLength) before)
+    either true = refl
+    either false = refl
 
 -- ---- a call on an image
 

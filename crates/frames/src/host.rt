@@ -1,7 +1,7 @@
-// The host entry: a call on an image, and a frame on an image with its answer in a buffer.
+// What a host kernel calls: a new image, and a frame on an image with its answer in a buffer; and any call on an image.
 ghost use mathlib.Core.Path.{_≡_};
 ghost use Rattle.scheduler.specs.Scheduler.{abs, Valid};
-ghost use Rattle.frames.specs.Host.{refusalReturned, refusalOf, storedFor, onImage, callOnImage, hosted, hostStep};
+ghost use Rattle.frames.specs.Host.{refusalReturned, refusalOf, storedFor, onImage, callOnImage, made, hostNew, hosted, hostStep};
 use crate::decode::CallOption;
 use crate::decode::read_frame;
 use crate::encode::ANSWER_MAX;
@@ -26,6 +26,19 @@ pub enum ImageAnswer {
 
 // What is added to a refusal's number, so that a host can tell it from an answer's length.
 const REFUSED: u64 = 256;
+
+// The image of a new scheduler, for a host that begins: 0, or 256 and 7 where there is no room for it, or too much. Any bytes
+// will do. All IMAGE_BYTES of them are written; bytes of any other number are left as they were.
+#[no_mangle]
+pub extern "C" fn new_image(image: &mut [u8]) -> u64
+    ensures { λ r. ⌜ made r (now (image .exit)) ≡ hostNew (now (image .entry)) ⌝ }
+{
+    if write_image(QoSScheduler::new(), image) {
+        0
+    } else {
+        refused(HostError::WrongLength)
+    }
+}
 
 // A frame done on an image, and its answer at the front of a buffer: how many bytes it has, or 256 and the refusal. Any
 // image, frame and buffer will do. 7: the image does not have IMAGE_BYTES bytes, or the buffer has under ANSWER_MAX. 8: the
