@@ -1,10 +1,11 @@
-// Drives the host entry with raw frames, as a host kernel passes them: document 01's five frames on a new image, every call
+// Drives the host's entries, as a host kernel does: a first image; document 01's five frames on it, raw; every call
 // and query on a busy scheduler's image, and every refusal. A line has what was passed and the answer buffer's length, the
 // number returned, the answer, and whether the image and the bytes past the answer are as they were. Images are also read,
 // and called on, without a frame.
 ghost use Rattle.scheduler.specs.Scheduler.{Valid};
 
 mod answers;
+mod making;
 mod parts;
 mod passing;
 mod reading;
@@ -17,6 +18,8 @@ use answers::largest_sums;
 use answers::one_buffer;
 use answers::queries;
 use frames::accepts_image;
+use making::first_image;
+use making::lengths_of_new;
 use parts::IMAGE;
 use parts::QUEUE_0;
 use parts::show_holders;
@@ -46,7 +49,9 @@ use states::busy;
 use states::full;
 
 fn main() {
-    let new = written(QoSScheduler::new());
+    lengths_of_new();
+    let new = first_image();
+    compared(b"accepted, new", new, QoSScheduler::new());
     let after = examples(new);
     compared(b"accepted after the five frames", after, after_examples());
     compared(b"accepted, busy by frames", busy_by_frames(new), busy());

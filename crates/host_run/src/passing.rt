@@ -1,8 +1,9 @@
-// How images, frames and answer buffers are passed to the host entry.
+// How images, frames and answer buffers are passed to the host's entries.
 ghost use Rattle.scheduler.specs.Scheduler.{Valid};
 use crate::parts::IMAGE;
 use crate::show::MARK;
 use crate::show::show_step;
+use frames::new_image;
 use frames::step;
 use frames::write_image;
 use scheduler::QoSScheduler;
@@ -27,7 +28,7 @@ pub(crate) fn called_in(room: usize, what: &[u8], image: [u8; IMAGE], frame: &[u
 // A frame on the first `n` bytes of a new scheduler's image with one byte behind it, shown with all of them.
 pub(crate) fn called_on(n: usize, what: &[u8], frame: &[u8]) {
     let mut bytes = [MARK; IMAGE + 1];
-    write_new(&mut bytes, IMAGE);
+    made(&mut bytes, IMAGE);
     let before = bytes;
     let mut buffer = [MARK; ROOM];
     let returned = passed(&mut bytes, n, frame, &mut buffer, ROOM);
@@ -44,11 +45,12 @@ fn passed(bytes: &mut [u8], n: usize, frame: &[u8], buffer: &mut [u8], room: usi
     0
 }
 
-// A new scheduler's image over the first `n` bytes, of which there are IMAGE.
-fn write_new(bytes: &mut [u8], n: usize) {
+// The entry's number for a new image over the first `n` bytes; 1 where there are fewer.
+pub(crate) fn made(bytes: &mut [u8], n: usize) -> u64 {
     if n <= bytes.len() {
-        write_image(QoSScheduler::new(), &mut bytes[..n]);
+        return new_image(&mut bytes[..n]);
     }
+    1
 }
 
 // The image after a frame whose answer nobody looks at.

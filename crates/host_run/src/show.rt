@@ -29,6 +29,18 @@ pub(crate) fn show_step(what: &[u8], room: usize, returned: u64, buffer: &[u8], 
     print(b"\n");
 }
 
+// A line with the number returned for a new image, and whether the image and the byte behind it are as they were.
+pub(crate) fn show_made(what: &[u8], returned: u64, image_kept: bool, rest_kept: bool) {
+    print(what);
+    print(b": returns ");
+    print_number(returned);
+    print(b", image");
+    print_kept(image_kept);
+    print(b", rest");
+    print_kept(rest_kept);
+    print(b"\n");
+}
+
 // A line with the bytes that were read, and what the check and the reader said of them.
 pub(crate) fn show_read(what: &[u8], checked: ImageStatus, read: ImageStatus) {
     print(what);
