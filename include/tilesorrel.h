@@ -16,7 +16,7 @@
  *
  * Calls on one image must come one after another: take a lock around each. 'rt staticlib frames' proves the library and
  * makes target/staticlib/libframes.a, which needs nothing but memcpy. docs/host.md says how to build and link it and
- * what to do about a refusal; docs/frames.md has every frame and answer with an example; docs/image.md has the image.
+ * what to do about a refusal, and has the image; docs/frames.md has every frame and answer with an example.
  *
  * Numbers of more than one byte are big-endian, in frames, answers and image.
  */
@@ -88,7 +88,7 @@ uint64_t step(uint8_t *image, size_t image_len, const uint8_t *frame, size_t fra
 #define TILESORREL_TERMINATE 0x02
 #define TILESORREL_TERMINATE_BYTES 9
 
-/* Takes a task out of its queue and makes it Blocked; a core that holds it goes on holding it until its next call.
+/* Takes a task out of its queue and makes it Blocked; a core that holds it goes on holding it.
  * Fields: slot 8. Comes back: nothing. Refused: 3 if the slot is 64 or above or free, then 5 if it is Blocked. */
 #define TILESORREL_BLOCK 0x03
 #define TILESORREL_BLOCK_BYTES 9
@@ -180,20 +180,19 @@ uint64_t step(uint8_t *image, size_t image_len, const uint8_t *frame, size_t fra
 
 /* ---- Refusals 1 to 6: an answer's status. The call changed nothing and picked nobody. ---- */
 
-#define TILESORREL_TABLE_FULL 1    /* create: no slot is free. Terminate a task first. */
-#define TILESORREL_QUEUE_FULL 2    /* 64 entries stand in the queue. Proved never to come back from this library. */
-#define TILESORREL_NO_SUCH_TASK 3  /* no such slot, task or core, or no holder that the call is about: see the call. */
-#define TILESORREL_ALREADY_READY 4 /* enqueue: it waits in its queue. Nothing is to be done. */
+#define TILESORREL_TABLE_FULL 1      /* create: no slot is free. Terminate a task first. */
+#define TILESORREL_QUEUE_FULL 2      /* 64 entries stand in the queue. It is proved never to come back. */
+#define TILESORREL_NO_SUCH_TASK 3    /* no such slot or core, or nobody there whom the call is for: see the call. */
+#define TILESORREL_ALREADY_READY 4   /* enqueue: it waits in its queue. Nothing is to be done. */
 #define TILESORREL_ALREADY_BLOCKED 5 /* block: it is Blocked. Nothing is to be done. */
-#define TILESORREL_NOT_BLOCKED 6     /* wake: it is not Blocked; handoff: the holder is Ready. Nothing is to be done. */
+#define TILESORREL_NOT_BLOCKED 6     /* wake: it is not Blocked; handoff: it is Ready. Nothing is to be done. */
 
 /* ---- Refusals 7 to 9: returned, with TILESORREL_REFUSED added. Nothing was touched. ---- */
 
-#define TILESORREL_REFUSED 256    /* a number returned is a length below this, or a refusal above */
+#define TILESORREL_REFUSED 256    /* a number returned is a length below this, or this and a refusal */
 #define TILESORREL_WRONG_LENGTH 7 /* the image does not have 3,275 bytes, or the answer buffer has under 51 */
-#define TILESORREL_NOT_ACCEPTED                                                                                        \
-    8                         /* the bytes are no image. Go back to one that was: docs/image.md has what is asked. */
-#define TILESORREL_NO_FRAME 9 /* the frame's first byte, length or band is wrong. Mend the caller. */
+#define TILESORREL_NOT_ACCEPTED 8 /* the bytes are no image: somebody else wrote there. Go back to one you kept. */
+#define TILESORREL_NO_FRAME 9     /* the frame's first byte, length or band is wrong. Mend the caller. */
 
 /* ---- Bands: what a task is for. An earlier band runs before a later one. ---- */
 
@@ -205,15 +204,15 @@ uint64_t step(uint8_t *image, size_t image_len, const uint8_t *frame, size_t fra
 /* ---- States of a task ---- */
 
 #define TILESORREL_READY 0      /* it stands in its band's queue, once */
-#define TILESORREL_RUNNING 1    /* it was picked, and has not been queued or blocked since */
+#define TILESORREL_RUNNING 1    /* it was picked, or woken while a core held it */
 #define TILESORREL_BLOCKED 2    /* it waits for a wake or an enqueue */
 #define TILESORREL_TERMINATED 3 /* the slot is free */
 
 /* ---- A record's bytes ---- */
 
 #define TILESORREL_TID_AT 0       /* 4 bytes: the host's own number, which several tasks may share */
-#define TILESORREL_BAND_AT 4      /* 1 */
-#define TILESORREL_STATE_AT 5     /* 1 */
+#define TILESORREL_BAND_AT 4      /* 1: a band */
+#define TILESORREL_STATE_AT 5     /* 1: a state */
 #define TILESORREL_CONTEXT_AT 6   /* 8: the host's, kept as it was given */
 #define TILESORREL_CR3_AT 14      /* 8: the host's, kept as it was given */
 #define TILESORREL_RSP0_AT 22     /* 8: the host's, kept as it was given */
@@ -226,9 +225,8 @@ uint64_t step(uint8_t *image, size_t image_len, const uint8_t *frame, size_t fra
 /* ---- An image's bytes. A host may read them between calls; it writes them only by copying an image whole. ---- */
 
 #define TILESORREL_RECORDS_AT 0    /* slot S's record is at S * TILESORREL_RECORD_BYTES */
-#define TILESORREL_QUEUES_AT 3008  /* band B's queue is at this + B * TILESORREL_QUEUE_BYTES: a length, then 64 slots  \
-                                    */
-#define TILESORREL_QUEUE_BYTES 65  /* the slots stand from front to tail; those behind the length are 0 */
+#define TILESORREL_QUEUES_AT 3008  /* band B's queue is at this + B * TILESORREL_QUEUE_BYTES */
+#define TILESORREL_QUEUE_BYTES 65  /* a length, then 64 slots from front to tail; those behind the length are 0 */
 #define TILESORREL_HOLDERS_AT 3203 /* the slot that core C holds is at this + C; TILESORREL_NONE if none */
 #define TILESORREL_MICROS_AT 3267  /* 8: what TILESORREL_SYSTEM_MICROSECONDS answers */
 

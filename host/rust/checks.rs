@@ -3,37 +3,14 @@
 use crate::expected::{Expected, BEHIND, UNWRITTEN};
 use crate::frames::{bytes_of, Frame};
 use crate::tilesorrel::{
-    get, new_image, put, step, Refusal, AFFINITY_BYTES, ANSWER_BYTES, BLOCK_BYTES, CAN_RUN_ON_CORE_BYTES, CREATE_BYTES,
-    CURRENT_TASK_ON_CPU_BYTES, ENQUEUE_BYTES, HANDOFF_BYTES, HOLDER_BYTES, IMAGE_BYTES, NONE, PICK_BAND_AT,
-    PICK_SLOT_AT, PLAN_BYTES, SCHEDULE_BYTES, STATUS_AT, SYSTEM_MICROSECONDS_BYTES, TASK_BYTES,
-    TASK_INDEX_FOR_TID_BYTES, TERMINATE_BYTES, TICK_BYTES, VALUE_AT, WAKE_BYTES, YIELD_BYTES,
+    get, new_image, put, step, Refusal, ANSWER_BYTES, IMAGE_BYTES, NONE, PICK_BAND_AT, PICK_SLOT_AT, STATUS_AT,
+    VALUE_AT,
 };
 use std::fmt::Debug;
 use std::hint::black_box;
 use std::process::ExitCode;
 
-/// The length that each call's frame must have, at the call's number.
-const FRAME_LENGTHS: [usize; 17] = [
-    CREATE_BYTES,
-    AFFINITY_BYTES,
-    TERMINATE_BYTES,
-    BLOCK_BYTES,
-    WAKE_BYTES,
-    ENQUEUE_BYTES,
-    SCHEDULE_BYTES,
-    TICK_BYTES,
-    YIELD_BYTES,
-    HANDOFF_BYTES,
-    PLAN_BYTES,
-    CAN_RUN_ON_CORE_BYTES,
-    TASK_INDEX_FOR_TID_BYTES,
-    TASK_BYTES,
-    CURRENT_TASK_ON_CPU_BYTES,
-    SYSTEM_MICROSECONDS_BYTES,
-    HOLDER_BYTES,
-];
-
-/// What the answer buffer is filled with, in turns: a byte that is always written past the answer is not always right.
+/// What the answer buffer is filled with, in turns: a byte written where none should be may be the mark by chance.
 const MARKS: [u8; 2] = [0xa5, 0x5a];
 
 /// How much longer the buffer is than it has to be, in turns.
@@ -91,8 +68,8 @@ impl Host {
     }
 
     /// Passes the frame, with image and buffer of these lengths, and checks what is returned, the buffer with the bytes
-    /// behind it, the image with the bytes behind it, and that the frame is as it was. The result is the answer's bytes,
-    /// or why there is none.
+    /// behind it, the image with the bytes behind it, and that the frame is as it was. The result is the answer, or why
+    /// there is none.
     fn check_step(&mut self, what: &str, frame: &Frame, lengths: (usize, usize), result: Result<&[u8], Refusal>) {
         let (image_len, answer_len) = lengths;
         let mut answer = [MARKS[self.passed % 2]; 2 * ANSWER_BYTES + BEHIND];
@@ -112,8 +89,7 @@ impl Host {
 
     /// The call is made, in a buffer that just suffices and in a longer one by turns.
     fn check_answer(&mut self, what: &str, frame: &Frame, told: &[u8]) {
-        let length = FRAME_LENGTHS.get(usize::from(frame.bytes()[0])).copied().unwrap_or(0);
-        self.checks.value(what, "the frame's length", frame.bytes().len(), length);
+        self.checks.value(what, "the frame's length", frame.bytes().len(), frame.call_bytes());
         self.check_step(what, frame, (IMAGE_BYTES, ANSWER_BYTES + MORE[self.passed % 2]), Ok(told));
     }
 

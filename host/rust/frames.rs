@@ -1,6 +1,32 @@
 //! The frames that are passed: a call's first byte and its fields, as tilesorrel.rs has them.
 
-use crate::tilesorrel::{put, AFFINITY, CAN_RUN_ON_CORE, CREATE, TASK_INDEX_FOR_TID};
+use crate::tilesorrel::{
+    put, AFFINITY, AFFINITY_BYTES, BLOCK_BYTES, CAN_RUN_ON_CORE, CAN_RUN_ON_CORE_BYTES, CREATE, CREATE_BYTES,
+    CURRENT_TASK_ON_CPU_BYTES, ENQUEUE_BYTES, HANDOFF_BYTES, HOLDER_BYTES, PLAN_BYTES, SCHEDULE_BYTES,
+    SYSTEM_MICROSECONDS_BYTES, TASK_BYTES, TASK_INDEX_FOR_TID, TASK_INDEX_FOR_TID_BYTES, TERMINATE_BYTES, TICK_BYTES,
+    WAKE_BYTES, YIELD_BYTES,
+};
+
+/// The length that each call's frame must have, at the call's number.
+const LENGTHS: [usize; 17] = [
+    CREATE_BYTES,
+    AFFINITY_BYTES,
+    TERMINATE_BYTES,
+    BLOCK_BYTES,
+    WAKE_BYTES,
+    ENQUEUE_BYTES,
+    SCHEDULE_BYTES,
+    TICK_BYTES,
+    YIELD_BYTES,
+    HANDOFF_BYTES,
+    PLAN_BYTES,
+    CAN_RUN_ON_CORE_BYTES,
+    TASK_INDEX_FOR_TID_BYTES,
+    TASK_BYTES,
+    CURRENT_TASK_ON_CPU_BYTES,
+    SYSTEM_MICROSECONDS_BYTES,
+    HOLDER_BYTES,
+];
 
 /// What a create asks for: cr3 and rsp0 are made from the context.
 pub struct Task {
@@ -23,6 +49,7 @@ impl Task {
     }
 }
 
+/// The bytes that are passed: a call and its fields, or what is no frame.
 pub struct Frame {
     bytes: Vec<u8>,
 }
@@ -76,6 +103,12 @@ impl Frame {
 
     pub fn bytes(&self) -> &[u8] {
         &self.bytes
+    }
+
+    /// The length that a frame of this call must have; 0 if there is no such call.
+    pub fn call_bytes(&self) -> usize {
+        let call = self.bytes.first().copied().map(usize::from);
+        call.and_then(|call| LENGTHS.get(call)).copied().unwrap_or(0)
     }
 }
 

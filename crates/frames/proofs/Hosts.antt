@@ -6,7 +6,7 @@ use mathlib.Core.List.{List, [], _∷_, _++_}
 use Prim.Native.Nat.{ℕ, _+_, _≤_}
 use native.Mathlib.Omega.{arith}
 use borrow.Author.Tests.{ltb-true, ltb-false, eq-eqb, le-ltb}
-use lib.Dec.{ltb}
+use lib.Dec.{ltb, eqb}
 use lib.ListN.{length}
 use lib.Seq.{sets}
 use Rattle.records.specs.declared.error.SchedError.{SchedError}
@@ -33,7 +33,7 @@ use Rattle.frames.specs.HostClaim.{HostCall, HostCalls, imageLeft, refus
 use Rattle.frames.specs.Bytes.{AllBytes, bytesOf}
 use Rattle.frames.specs.Fits.{FitsCall, HasImage}
 use Rattle.frames.specs.Frame.{frameCall}
-use Rattle.frames.specs.Host.{refusalReturned, answerRoom, callOnImage, Hosted, hosted, hostRefused, hostAnswered, hostCalled, wrongLength, hostStep}
+use Rattle.frames.specs.Host.{refusalReturned, answerRoom, callOnImage, Made, hostNew, Hosted, hosted, hostRefused, hostAnswered, hostCalled, wrongLength, hostStep}
 use Rattle.frames.specs.Image.{imageLength, imageOf, stateAt}
 use Rattle.frames.specs.Lines.{said}
 use Rattle.frames.specs.Start.{ReadFrom, fromImage}
@@ -80,6 +80,14 @@ refusal-bytes NotBlocked = refl
 pub new-image : AcceptedImage (imageOf newState) × (stateAt (imageOf newState) ≡ newState)
 unfolding run Each
 new-image = let has : HasImage newState = new-reached [] tt in (has .image-accepted, has .reads-as)
+
+-- so what `new_image` writes is accepted, and stands for new
+pub made-accepted : (image : List ℕ) → hostNew image .returned ≡ 0 → AcceptedImage (hostNew image .image) × (stateAt (hostNew image .image) ≡ newState)
+unfolding hostNew
+made-accepted image = by-if IsNew (eqb (length image) imageLength) (λ _ _. new-image) (λ _ h. absurd (omega (arith, h)))
+  where
+    IsNew : Made → Type 0
+    IsNew m = m .returned ≡ 0 → AcceptedImage (m .image) × (stateAt (m .image) ≡ newState)
 
 module _ (image : List ℕ) (a : AcceptedImage image) where
   -- neither 7 nor 8

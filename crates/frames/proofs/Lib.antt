@@ -25,7 +25,7 @@
 -- line is told, Onward one line and then the others, Progress the loop that answers a text. Writings puts an image together. Passing
 -- is the loop that tests every slot or core, RecordBytes what a record's bytes say, Counting how often each slot stands in the queues,
 -- and Accepting has each way out of the test of an image. Readings puts a scheduler together from the parts of an image, and Hosting has each way
--- out of a call on an image and of the host entry.
+-- out of a new image, of a call on an image and of the host entry.
 pub mod Stores
 pub mod Elements
 pub mod Numbers
