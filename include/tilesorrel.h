@@ -14,9 +14,10 @@
  *     step(image, sizeof image, frame, sizeof frame, answer, sizeof answer);
  *     answer[TILESORREL_VALUE_AT];                             // the slot that core 3 is to run
  *
- * Calls on one image must come one after another: take a lock around each. 'rt staticlib frames' proves the library and
- * makes target/staticlib/libframes.a, which needs nothing but memcpy. docs/host.md says how to build and link it and
- * what to do about a refusal, and has the image; docs/frames.md has every frame and answer with an example.
+ * Calls on one image must come one after another: take a lock around each. A call uses the SSE2 registers and the red
+ * zone, and up to TILESORREL_STACK_BYTES of stack. 'rt staticlib frames' proves the library and makes
+ * target/staticlib/libframes.a, which needs nothing but memcpy. docs/host.md says how to build and link it and what to
+ * do about a refusal, and has the image; docs/frames.md has every frame and answer with an example.
  *
  * Numbers of more than one byte are big-endian, in frames, answers and image.
  */
@@ -68,9 +69,9 @@ uint64_t step(uint8_t *image, size_t image_len, const uint8_t *frame, size_t fra
 /*
  * ---- Calls: the first byte of a frame, and the frame's length ----
  *
- * Behind the first byte stand the fields, each with its number of bytes. A slot or a core takes 8 and may be any
- * number. "Comes back" is the answer's value, from TILESORREL_VALUE_AT on; a refused call has none. What is said of no
- * refusal is never refused.
+ * From byte 1 on stand the fields, one behind the other, each with its number of bytes. A slot or a core takes 8 and
+ * may be any number. "Comes back" is the answer's value, from TILESORREL_VALUE_AT on; a refused call has none. What is
+ * said of no refusal is never refused.
  */
 
 /* Makes a task in the lowest free slot: Blocked, on all cores. Enqueue or wake it next.
@@ -88,7 +89,7 @@ uint64_t step(uint8_t *image, size_t image_len, const uint8_t *frame, size_t fra
 #define TILESORREL_TERMINATE 0x02
 #define TILESORREL_TERMINATE_BYTES 9
 
-/* Takes a task out of its queue and makes it Blocked; a core that holds it goes on holding it.
+/* Takes a task out of its queue and makes it Blocked, with nothing consumed; a core that holds it goes on holding it.
  * Fields: slot 8. Comes back: nothing. Refused: 3 if the slot is 64 or above or free, then 5 if it is Blocked. */
 #define TILESORREL_BLOCK 0x03
 #define TILESORREL_BLOCK_BYTES 9
@@ -103,15 +104,17 @@ uint64_t step(uint8_t *image, size_t image_len, const uint8_t *frame, size_t fra
 #define TILESORREL_ENQUEUE 0x05
 #define TILESORREL_ENQUEUE_BYTES 9
 
-/* Picks a task for a core, which then holds it. The one that it held is not queued again.
- * Fields: core 8. Comes back: the slot, or TILESORREL_NONE if nobody may run there or the core is 64 or above, 1 byte.
- */
+/* Picks a task for a core, which then holds it, or nobody if nobody waits who may use it. The task that it held is not
+ * queued: a Running one stays so, and is held by no core until it is enqueued. So tick or yield where it is to go on.
+ * Fields: core 8. Comes back: the slot, or TILESORREL_NONE, 1 byte. A core of 64 or above gives TILESORREL_NONE, and
+ * nothing is changed. */
 #define TILESORREL_SCHEDULE 0x06
 #define TILESORREL_SCHEDULE_BYTES 9
 
 /* A core's timer: charges the task that it holds, and picks another where its slice is over, where it is Blocked, where
- * an earlier band waits, or where there is none. Fields: core 8, elapsed microseconds 4. Comes back: the slot to run,
- * or TILESORREL_NONE, 1 byte. A core of 64 or above gives TILESORREL_NONE, and nothing is changed. */
+ * an earlier band waits, or where there is none.
+ * Fields: core 8, elapsed microseconds 4. Comes back: the slot to run, or TILESORREL_NONE, 1 byte. A core of 64 or above
+ * gives TILESORREL_NONE, and nothing is changed. */
 #define TILESORREL_TICK 0x07
 #define TILESORREL_TICK_BYTES 13
 
@@ -132,8 +135,8 @@ uint64_t step(uint8_t *image, size_t image_len, const uint8_t *frame, size_t fra
 #define TILESORREL_PLAN 0x0a
 #define TILESORREL_PLAN_BYTES 13
 
-/* Whether a slot's mask permits a core, which is taken modulo 64; 0 for a slot of 64 or above. A query: it changes
- * nothing. Fields: slot 8, core 8. Comes back: 0 or 1, 1 byte. */
+/* Whether a slot's mask permits a core, which is taken modulo 64. A query: it changes nothing.
+ * Fields: slot 8, core 8. Comes back: 0 or 1, 1 byte; 0 for a slot of 64 or above. */
 #define TILESORREL_CAN_RUN_ON_CORE 0x0b
 #define TILESORREL_CAN_RUN_ON_CORE_BYTES 17
 
@@ -189,7 +192,7 @@ uint64_t step(uint8_t *image, size_t image_len, const uint8_t *frame, size_t fra
 
 /* ---- Refusals 7 to 9: returned, with TILESORREL_REFUSED added. Nothing was touched. ---- */
 
-#define TILESORREL_REFUSED 256    /* a number returned is a length below this, or this and a refusal */
+#define TILESORREL_REFUSED 256    /* what step returns is a length below this, or this and a refusal */
 #define TILESORREL_WRONG_LENGTH 7 /* the image does not have 3,275 bytes, or the answer buffer has under 51 */
 #define TILESORREL_NOT_ACCEPTED 8 /* the bytes are no image: somebody else wrote there. Go back to one you kept. */
 #define TILESORREL_NO_FRAME 9     /* the frame's first byte, length or band is wrong. Mend the caller. */

@@ -50,7 +50,7 @@ static void made(void)
     expect_field(3, TILESORREL_MASK_AT, 8, 0x2);
     answered("affinity: slot 3 on core 1 alone", "00ffff");
     affinity(2, 0);
-    answered("affinity: mask 0 is all ones", "00ffff");
+    answered("affinity: mask 0 is all ones, as it was", "00ffff");
 }
 
 static void enqueued(void)
@@ -211,7 +211,7 @@ static void queued_holder(void)
     answered("schedule on core 64: there is none", "00ffff ff");
 }
 
-/* Core 1 skips what it may not use: K4 of document 01. */
+/* Core 7 skips what may not use it, as in K4 of document 01. */
 static void skipped(void)
 {
     affinity(1, 0x1);
@@ -238,17 +238,105 @@ static void skipped(void)
     answered("schedule on core 7: slot 4; slot 1, before it, moves to the tail", "000401 04");
 }
 
+/* ---- Holders that are Blocked, and cores that pick anew ---- */
+
+static void blocked_holder(void)
+{
+    of_timer(TILESORREL_TICK, 1, 700);
+    expect_field(3, TILESORREL_CONSUMED_AT, 4, 700);
+    expect_micros(8700);
+    answered("tick of 700 on core 1: slot 3 goes on", "00ffff 03");
+    of_slot(TILESORREL_BLOCK, 3);
+    expect_state(3, TILESORREL_BLOCKED);
+    expect_field(3, TILESORREL_CONSUMED_AT, 4, 0);
+    answered("block slot 3: nothing is consumed any more", "00ffff");
+    of_timer(TILESORREL_TICK, 1, 100);
+    expect_queue(1, "1");
+    expect_picked(1, 5);
+    expect_micros(8800);
+    answered("tick on core 1, whose holder is Blocked: slot 5 of band 1", "000501 05");
+    affinity(3, 0);
+    expect_field(3, TILESORREL_MASK_AT, 8, ALL_CORES);
+    answered("affinity: mask 0 is stored as all ones", "00ffff");
+    of_slot(TILESORREL_WAKE, 3);
+    expect_state(3, TILESORREL_READY);
+    expect_queue(0, "3");
+    answered("wake slot 3", "00ffff");
+    of_slot(TILESORREL_BLOCK, 3);
+    expect_state(3, TILESORREL_BLOCKED);
+    expect_queue(0, "");
+    answered("block slot 3, which waits: out of its queue", "00ffff");
+    of_slot(TILESORREL_ENQUEUE, 3);
+    expect_state(3, TILESORREL_READY);
+    expect_queue(0, "3");
+    answered("enqueue slot 3, which is Blocked", "00ffff");
+}
+
+static void switched(void)
+{
+    of_core(TILESORREL_YIELD, 8);
+    expect_queue(0, "");
+    expect_picked(8, 3);
+    answered("yield on core 8: from none to slot 3", "000300 01 ff 03 00000000000004c3");
+    of_slot(TILESORREL_BLOCK, 3);
+    expect_state(3, TILESORREL_BLOCKED);
+    answered("block slot 3", "00ffff");
+    of_timer(TILESORREL_PLAN, 8, 50);
+    expect_queue(2, "");
+    expect_picked(8, 2);
+    expect_micros(8850);
+    answered("plan on core 8, whose holder is Blocked: from slot 3 to slot 2", "000202 01 03 02 00000000000003c3");
+    of_slot(TILESORREL_BLOCK, 5);
+    expect_state(5, TILESORREL_BLOCKED);
+    answered("block slot 5", "00ffff");
+    of_slot(TILESORREL_WAKE, 3);
+    expect_state(3, TILESORREL_READY);
+    expect_queue(0, "3");
+    answered("wake slot 3", "00ffff");
+    of_core(TILESORREL_HANDOFF, 1);
+    expect_queue(0, "");
+    expect_picked(1, 3);
+    answered_switch("handoff on core 1: from slot 5 to slot 3", TILESORREL_USER_INTERACTIVE, 5, 3);
+}
+
+static void picked_anew(void)
+{
+    of_slot(TILESORREL_WAKE, 5);
+    expect_state(5, TILESORREL_READY);
+    expect_queue(1, "15");
+    answered("wake slot 5", "00ffff");
+    of_core(TILESORREL_SCHEDULE, 3);
+    expect_queue(1, "1");
+    expect_picked(3, 5);
+    answered("schedule on core 3, which holds slot 4: slot 5", "000501 05");
+    of_core(TILESORREL_SCHEDULE, 7);
+    expect_holder(7, TILESORREL_NONE);
+    answered("schedule on core 7: nobody may use it, and slot 4 is held no more", "00ffff ff");
+    of_timer(TILESORREL_TICK, 2, 5000);
+    expect_holder(2, TILESORREL_NONE);
+    expect_micros(13850);
+    answered("tick on core 2: a Ready holder's slice is over, and it waits once", "00ffff ff");
+    of_timer(TILESORREL_TICK, 0, 1);
+    expect_field(0, TILESORREL_CONSUMED_AT, 4, 1);
+    expect_micros(13851);
+    answered("tick of 1 on core 0", "00ffff 00");
+    of_timer(TILESORREL_TICK, 0, UINT32_MAX);
+    expect_field(0, TILESORREL_CONSUMED_AT, 4, 0);
+    expect_micros(4294981146);
+    answered("tick of 4,294,967,295: the sum passes 32 bits, and the slice is over", "000000 00");
+}
+
 /* ---- Queries ---- */
 
 static void queries(void)
 {
-    of_slot_and_core(3, 1);
-    answered("slot 3 may use core 1", "00ffff 01");
-    of_slot_and_core(3, 0);
-    answered("slot 3 may not use core 0", "00ffff 00");
-    of_slot_and_core(3, 65);
-    answered("core 65 is taken as core 1", "00ffff 01");
-    of_slot_and_core(64, 1);
+    of_slot_and_core(1, 0);
+    answered("slot 1 may use core 0", "00ffff 01");
+    of_slot_and_core(1, 1);
+    answered("slot 1 may not use core 1", "00ffff 00");
+    of_slot_and_core(1, 64);
+    answered("core 64 is taken as core 0", "00ffff 01");
+    of_slot_and_core(64, 0);
     answered("slot 64 may use no core", "00ffff 00");
     of_tid(7);
     answered("tid 7 is slot 0, the lowest", "00ffff 00");
@@ -267,16 +355,16 @@ static void queries(void)
     of_core(TILESORREL_CURRENT_TASK_ON_CPU, 64);
     answered("core 64 has no task", "00ffff 00");
     of_nothing(TILESORREL_SYSTEM_MICROSECONDS);
-    answered("8,000 microseconds have passed", "00ffff 0000000000001f40");
+    answered("4,294,981,146 microseconds have passed", "00ffff 000000010000361a");
     of_slot(TILESORREL_HOLDER, 0);
     answered("slot 0 is held by cores 0 and 5: the lower", "00ffff 00");
-    of_slot(TILESORREL_HOLDER, 2);
-    answered("slot 2 is held by no core", "00ffff ff");
+    of_slot(TILESORREL_HOLDER, 4);
+    answered("slot 4, Running, is held by no core", "00ffff ff");
     of_slot(TILESORREL_HOLDER, 64);
     answered("slot 64 is held by no core", "00ffff ff");
 }
 
-/* ---- Terminate, and a full table ---- */
+/* ---- Terminate ---- */
 
 static void terminated(void)
 {
@@ -285,10 +373,15 @@ static void terminated(void)
     expect_holder(0, TILESORREL_NONE);
     expect_holder(5, TILESORREL_NONE);
     answered("terminate slot 0: no core holds it any more", "00ffff");
+    of_slot(TILESORREL_ENQUEUE, 5);
+    expect_state(5, TILESORREL_READY);
+    expect_queue(1, "15");
+    answered("enqueue slot 5, which core 3 holds", "00ffff");
     of_slot(TILESORREL_TERMINATE, 5);
     expect_terminated(5);
     expect_queue(1, "1");
-    answered("terminate slot 5: out of its queue", "00ffff");
+    expect_holder(3, TILESORREL_NONE);
+    answered("terminate slot 5: out of its queue, and held no more", "00ffff");
     of_slot(TILESORREL_TERMINATE, 63);
     answered("terminate slot 63, which is free", "00ffff");
     affinity(63, 0x5);
@@ -296,25 +389,6 @@ static void terminated(void)
     answered("affinity of slot 63, which is free", "00ffff");
     of_tid(7);
     answered("tid 7 is slot 3 now", "00ffff 03");
-}
-
-static void filled(void)
-{
-    static const char digits[] = "0123456789abcdef";
-    char answer[] = "00ffff 00";
-    unsigned slot;
-    for (slot = 0; slot < TILESORREL_SLOTS; slot += 1) {
-        if (slot >= 1 && slot <= 4) {
-            continue; /* in use */
-        }
-        answer[7] = digits[slot / 16];
-        answer[8] = digits[slot % 16];
-        create(1000 + slot, slot % TILESORREL_BANDS, slot);
-        expect_created(slot);
-        answered("create in the lowest free slot", answer);
-    }
-    create(2000, TILESORREL_BACKGROUND, 0);
-    refused("create with 64 tasks", TILESORREL_TABLE_FULL);
 }
 
 /* ---- Refusals ---- */
@@ -347,6 +421,26 @@ static void no_such_task(void)
         of_core(TILESORREL_HANDOFF, above[i]);
         refused("handoff on a core above 63", TILESORREL_NO_SUCH_TASK);
     }
+}
+
+/* The free slots are filled from the lowest on; then there is none. */
+static void filled(void)
+{
+    static const char digits[] = "0123456789abcdef";
+    char answer[] = "00ffff 00";
+    unsigned slot;
+    for (slot = 0; slot < TILESORREL_SLOTS; slot += 1) {
+        if (slot >= 1 && slot <= 4) {
+            continue; /* in use */
+        }
+        answer[7] = digits[slot / 16];
+        answer[8] = digits[slot % 16];
+        create(1000 + slot, slot % TILESORREL_BANDS, slot);
+        expect_created(slot);
+        answered("create in the lowest free slot", answer);
+    }
+    create(2000, TILESORREL_BACKGROUND, 0);
+    refused("create with 64 tasks", TILESORREL_TABLE_FULL);
 }
 
 static void wrong_lengths(void)
@@ -420,6 +514,9 @@ int main(void)
     preempted();
     queued_holder();
     skipped();
+    blocked_holder();
+    switched();
+    picked_anew();
     queries();
     terminated();
     no_such_task();

@@ -53,11 +53,11 @@ static void check_step(const char *what, size_t image_len, size_t answer_len, ui
     check_bytes(what, "the frame", frame, asked, sizeof frame);
 }
 
-/* The call is made, in a buffer that just suffices and in a longer one. */
+/* The call is made, in a buffer that just suffices or, two calls later, in a longer one: with either mark. */
 static void check_answer(const char *what, const uint8_t *told, size_t told_len)
 {
     static unsigned turn;
-    size_t more = turn % 2 == 0 ? 0 : TILESORREL_ANSWER_BYTES;
+    size_t more = turn / 2 % 2 == 0 ? 0 : TILESORREL_ANSWER_BYTES;
     turn += 1;
     check_number(what, "the frame's length", frame_len, frame_bytes(frame[0]));
     check_step(what, TILESORREL_IMAGE_BYTES, TILESORREL_ANSWER_BYTES + more, told_len, told, told_len);
@@ -77,6 +77,20 @@ static void answered_record(const char *what, unsigned slot)
     size_t head = bytes_of("00ffff 01", told);
     memcpy(told + head, expected + record(slot), TILESORREL_RECORD_BYTES);
     check_answer(what, told, head + TILESORREL_RECORD_BYTES);
+}
+
+/* The call is answered with a pick, and a plan to switch to it. */
+static void answered_switch(const char *what, uint8_t band, uint8_t previous, uint8_t target)
+{
+    uint8_t told[TILESORREL_ANSWER_BYTES], *plan = told + TILESORREL_VALUE_AT;
+    told[TILESORREL_STATUS_AT] = TILESORREL_DONE;
+    told[TILESORREL_PICK_SLOT_AT] = target;
+    told[TILESORREL_PICK_BAND_AT] = band;
+    plan[0] = TILESORREL_PLAN_SWITCH;
+    plan[TILESORREL_PLAN_PREVIOUS_AT] = previous;
+    plan[TILESORREL_PLAN_TARGET_AT] = target;
+    memcpy(plan + TILESORREL_PLAN_CR3_AT, expected + record(target) + TILESORREL_CR3_AT, 8);
+    check_answer(what, told, TILESORREL_VALUE_AT + TILESORREL_PLAN_CR3_AT + 8);
 }
 
 /* The call is refused with 1 to 6: an answer of the number and no pick. */

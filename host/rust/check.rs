@@ -16,7 +16,7 @@ mod frames;
 mod tilesorrel;
 
 use checks::Host;
-use expected::{holder_at, queue_at, record_at};
+use expected::{holder_at, queue_at, record_at, ALL_CORES};
 use frames::{Frame, Task};
 use std::process::ExitCode;
 use tilesorrel::*;
@@ -50,7 +50,7 @@ fn made(host: &mut Host) {
 
     host.expected.field(3, MASK_AT, 8, 0x2);
     host.answered("affinity: slot 3 on core 1 alone", &Frame::affinity(3, 0x2), "00ffff");
-    host.answered("affinity: mask 0 is all ones", &Frame::affinity(2, 0), "00ffff");
+    host.answered("affinity: mask 0 is all ones, as it was", &Frame::affinity(2, 0), "00ffff");
 }
 
 fn enqueued(host: &mut Host) {
@@ -182,7 +182,7 @@ fn queued_holder(host: &mut Host) {
     host.answered("schedule on core 64: there is none", &Frame::of_core(SCHEDULE, 64), "00ffff ff");
 }
 
-/// Core 7 skips what it may not use, as in K4 of document 01.
+/// Core 7 skips what may not use it, as in K4 of document 01.
 fn skipped(host: &mut Host) {
     host.expected.field(1, MASK_AT, 8, 0x1);
     host.answered("affinity: slot 1 on core 0 alone", &Frame::affinity(1, 0x1), "00ffff");
@@ -204,13 +204,87 @@ fn skipped(host: &mut Host) {
     host.answered(what, &Frame::of_core(SCHEDULE, 7), "000401 04");
 }
 
+// ---- Holders that are Blocked, and cores that pick anew ----
+
+fn blocked_holder(host: &mut Host) {
+    host.expected.field(3, CONSUMED_AT, 4, 700);
+    host.expected.micros(8700);
+    host.answered("tick of 700 on core 1: slot 3 goes on", &Frame::of_timer(TICK, 1, 700), "00ffff 03");
+    host.expected.state(3, BLOCKED);
+    host.expected.field(3, CONSUMED_AT, 4, 0);
+    host.answered("block slot 3: nothing is consumed any more", &Frame::of_slot(BLOCK, 3), "00ffff");
+    host.expected.queue(1, &[1]);
+    host.expected.picked(1, 5);
+    host.expected.micros(8800);
+    let what = "tick on core 1, whose holder is Blocked: slot 5 of band 1";
+    host.answered(what, &Frame::of_timer(TICK, 1, 100), "000501 05");
+    host.expected.field(3, MASK_AT, 8, ALL_CORES);
+    host.answered("affinity: mask 0 is stored as all ones", &Frame::affinity(3, 0), "00ffff");
+    host.expected.state(3, READY);
+    host.expected.queue(0, &[3]);
+    host.answered("wake slot 3", &Frame::of_slot(WAKE, 3), "00ffff");
+    host.expected.state(3, BLOCKED);
+    host.expected.queue(0, &[]);
+    host.answered("block slot 3, which waits: out of its queue", &Frame::of_slot(BLOCK, 3), "00ffff");
+    host.expected.state(3, READY);
+    host.expected.queue(0, &[3]);
+    host.answered("enqueue slot 3, which is Blocked", &Frame::of_slot(ENQUEUE, 3), "00ffff");
+}
+
+fn switched(host: &mut Host) {
+    host.expected.queue(0, &[]);
+    host.expected.picked(8, 3);
+    let what = "yield on core 8: from none to slot 3";
+    host.answered(what, &Frame::of_core(YIELD, 8), "000300 01 ff 03 00000000000004c3");
+    host.expected.state(3, BLOCKED);
+    host.answered("block slot 3", &Frame::of_slot(BLOCK, 3), "00ffff");
+    host.expected.queue(2, &[]);
+    host.expected.picked(8, 2);
+    host.expected.micros(8850);
+    let what = "plan on core 8, whose holder is Blocked: from slot 3 to slot 2";
+    host.answered(what, &Frame::of_timer(PLAN, 8, 50), "000202 01 03 02 00000000000003c3");
+    host.expected.state(5, BLOCKED);
+    host.answered("block slot 5", &Frame::of_slot(BLOCK, 5), "00ffff");
+    host.expected.state(3, READY);
+    host.expected.queue(0, &[3]);
+    host.answered("wake slot 3", &Frame::of_slot(WAKE, 3), "00ffff");
+    host.expected.queue(0, &[]);
+    host.expected.picked(1, 3);
+    let what = "handoff on core 1: from slot 5 to slot 3";
+    host.answered_switch(what, &Frame::of_core(HANDOFF, 1), USER_INTERACTIVE, 5, 3);
+}
+
+fn picked_anew(host: &mut Host) {
+    host.expected.state(5, READY);
+    host.expected.queue(1, &[1, 5]);
+    host.answered("wake slot 5", &Frame::of_slot(WAKE, 5), "00ffff");
+    host.expected.queue(1, &[1]);
+    host.expected.picked(3, 5);
+    let what = "schedule on core 3, which holds slot 4: slot 5";
+    host.answered(what, &Frame::of_core(SCHEDULE, 3), "000501 05");
+    host.expected.holder(7, NONE);
+    let what = "schedule on core 7: nobody may use it, and slot 4 is held no more";
+    host.answered(what, &Frame::of_core(SCHEDULE, 7), "00ffff ff");
+    host.expected.holder(2, NONE);
+    host.expected.micros(13850);
+    let what = "tick on core 2: a Ready holder's slice is over, and it waits once";
+    host.answered(what, &Frame::of_timer(TICK, 2, 5000), "00ffff ff");
+    host.expected.field(0, CONSUMED_AT, 4, 1);
+    host.expected.micros(13851);
+    host.answered("tick of 1 on core 0", &Frame::of_timer(TICK, 0, 1), "00ffff 00");
+    host.expected.field(0, CONSUMED_AT, 4, 0);
+    host.expected.micros(4_294_981_146);
+    let what = "tick of 4,294,967,295: the sum passes 32 bits, and the slice is over";
+    host.answered(what, &Frame::of_timer(TICK, 0, u32::MAX), "000000 00");
+}
+
 // ---- Queries ----
 
 fn queries(host: &mut Host) {
-    host.answered("slot 3 may use core 1", &Frame::of_slot_and_core(3, 1), "00ffff 01");
-    host.answered("slot 3 may not use core 0", &Frame::of_slot_and_core(3, 0), "00ffff 00");
-    host.answered("core 65 is taken as core 1", &Frame::of_slot_and_core(3, 65), "00ffff 01");
-    host.answered("slot 64 may use no core", &Frame::of_slot_and_core(64, 1), "00ffff 00");
+    host.answered("slot 1 may use core 0", &Frame::of_slot_and_core(1, 0), "00ffff 01");
+    host.answered("slot 1 may not use core 1", &Frame::of_slot_and_core(1, 1), "00ffff 00");
+    host.answered("core 64 is taken as core 0", &Frame::of_slot_and_core(1, 64), "00ffff 01");
+    host.answered("slot 64 may use no core", &Frame::of_slot_and_core(64, 0), "00ffff 00");
     host.answered("tid 7 is slot 0, the lowest", &Frame::of_tid(7), "00ffff 00");
     host.answered("tid 12 is nobody's", &Frame::of_tid(12), "00ffff ff");
     host.answered_record("slot 3's record", &Frame::of_slot(TASK, 3), 3);
@@ -220,37 +294,31 @@ fn queries(host: &mut Host) {
     host.answered("core 4 has no task", &Frame::of_core(CURRENT_TASK_ON_CPU, 4), "00ffff 00");
     host.answered("core 64 has no task", &Frame::of_core(CURRENT_TASK_ON_CPU, 64), "00ffff 00");
     let micros = Frame::of_nothing(SYSTEM_MICROSECONDS);
-    host.answered("8,000 microseconds have passed", &micros, "00ffff 0000000000001f40");
+    host.answered("4,294,981,146 microseconds have passed", &micros, "00ffff 000000010000361a");
     host.answered("slot 0 is held by cores 0 and 5: the lower", &Frame::of_slot(HOLDER, 0), "00ffff 00");
-    host.answered("slot 2 is held by no core", &Frame::of_slot(HOLDER, 2), "00ffff ff");
+    host.answered("slot 4, Running, is held by no core", &Frame::of_slot(HOLDER, 4), "00ffff ff");
     host.answered("slot 64 is held by no core", &Frame::of_slot(HOLDER, 64), "00ffff ff");
 }
 
-// ---- Terminate, and a full table ----
+// ---- Terminate ----
 
 fn terminated(host: &mut Host) {
     host.expected.terminated(0);
     host.expected.holder(0, NONE);
     host.expected.holder(5, NONE);
     host.answered("terminate slot 0: no core holds it any more", &Frame::of_slot(TERMINATE, 0), "00ffff");
+    host.expected.state(5, READY);
+    host.expected.queue(1, &[1, 5]);
+    host.answered("enqueue slot 5, which core 3 holds", &Frame::of_slot(ENQUEUE, 5), "00ffff");
     host.expected.terminated(5);
     host.expected.queue(1, &[1]);
-    host.answered("terminate slot 5: out of its queue", &Frame::of_slot(TERMINATE, 5), "00ffff");
+    host.expected.holder(3, NONE);
+    let what = "terminate slot 5: out of its queue, and held no more";
+    host.answered(what, &Frame::of_slot(TERMINATE, 5), "00ffff");
     host.answered("terminate slot 63, which is free", &Frame::of_slot(TERMINATE, 63), "00ffff");
     host.expected.field(63, MASK_AT, 8, 0x5);
     host.answered("affinity of slot 63, which is free", &Frame::affinity(63, 0x5), "00ffff");
     host.answered("tid 7 is slot 3 now", &Frame::of_tid(7), "00ffff 03");
-}
-
-fn filled(host: &mut Host) {
-    let in_use = 1..=4;
-    for slot in (0..SLOTS as u8).filter(|slot| !in_use.contains(slot)) {
-        let task = Task::new(1000 + u32::from(slot), slot % BANDS, slot.into());
-        host.expected.created(slot, &task);
-        host.answered("create in the lowest free slot", &Frame::create(&task), &format!("00ffff {slot:02x}"));
-    }
-    let task = Task::new(2000, BACKGROUND, 0);
-    host.refused("create with 64 tasks", &Frame::create(&task), TABLE_FULL);
 }
 
 // ---- Refusals ----
@@ -269,6 +337,18 @@ fn no_such_task(host: &mut Host) {
         host.refused("yield on a core above 63", &Frame::of_core(YIELD, above), NO_SUCH_TASK);
         host.refused("handoff on a core above 63", &Frame::of_core(HANDOFF, above), NO_SUCH_TASK);
     }
+}
+
+/// The free slots are filled from the lowest on; then there is none.
+fn filled(host: &mut Host) {
+    let in_use = 1..=4;
+    for slot in (0..SLOTS as u8).filter(|slot| !in_use.contains(slot)) {
+        let task = Task::new(1000 + u32::from(slot), slot % BANDS, slot.into());
+        host.expected.created(slot, &task);
+        host.answered("create in the lowest free slot", &Frame::create(&task), &format!("00ffff {slot:02x}"));
+    }
+    let task = Task::new(2000, BACKGROUND, 0);
+    host.refused("create with 64 tasks", &Frame::create(&task), TABLE_FULL);
 }
 
 fn wrong_lengths(host: &mut Host) {
@@ -332,6 +412,9 @@ fn main() -> ExitCode {
     preempted(&mut host);
     queued_holder(&mut host);
     skipped(&mut host);
+    blocked_holder(&mut host);
+    switched(&mut host);
+    picked_anew(&mut host);
     queries(&mut host);
     terminated(&mut host);
     no_such_task(&mut host);

@@ -3,8 +3,8 @@
 use crate::expected::{Expected, BEHIND, UNWRITTEN};
 use crate::frames::{bytes_of, Frame};
 use crate::tilesorrel::{
-    get, new_image, put, step, Refusal, ANSWER_BYTES, IMAGE_BYTES, NONE, PICK_BAND_AT, PICK_SLOT_AT, STATUS_AT,
-    VALUE_AT,
+    get, new_image, put, step, Refusal, ANSWER_BYTES, CR3_AT, DONE, IMAGE_BYTES, NONE, PICK_BAND_AT, PICK_SLOT_AT,
+    PLAN_CR3_AT, PLAN_PREVIOUS_AT, PLAN_SWITCH, PLAN_TARGET_AT, STATUS_AT, VALUE_AT,
 };
 use std::fmt::Debug;
 use std::hint::black_box;
@@ -13,7 +13,7 @@ use std::process::ExitCode;
 /// What the answer buffer is filled with, in turns: a byte written where none should be may be the mark by chance.
 const MARKS: [u8; 2] = [0xa5, 0x5a];
 
-/// How much longer the buffer is than it has to be, in turns.
+/// How much longer the buffer is than it has to be, in turns of two calls: with either mark.
 const MORE: [usize; 2] = [0, ANSWER_BYTES];
 
 /// How many checks there were, and how many failed.
@@ -90,7 +90,7 @@ impl Host {
     /// The call is made, in a buffer that just suffices and in a longer one by turns.
     fn check_answer(&mut self, what: &str, frame: &Frame, told: &[u8]) {
         self.checks.value(what, "the frame's length", frame.bytes().len(), frame.call_bytes());
-        self.check_step(what, frame, (IMAGE_BYTES, ANSWER_BYTES + MORE[self.passed % 2]), Ok(told));
+        self.check_step(what, frame, (IMAGE_BYTES, ANSWER_BYTES + MORE[self.passed / 2 % 2]), Ok(told));
     }
 
     /// The call is answered with these bytes.
@@ -101,6 +101,19 @@ impl Host {
     /// The call is answered with a slot's record.
     pub fn answered_record(&mut self, what: &str, frame: &Frame, slot: u8) {
         let told = [&bytes_of("00ffff 01"), self.expected.record(slot)].concat();
+        self.check_answer(what, frame, &told);
+    }
+
+    /// The call is answered with a pick, and a plan to switch to it.
+    pub fn answered_switch(&mut self, what: &str, frame: &Frame, band: u8, previous: u8, target: u8) {
+        let mut told = [0; VALUE_AT + PLAN_CR3_AT + 8];
+        told[STATUS_AT] = DONE;
+        told[PICK_SLOT_AT] = target;
+        told[PICK_BAND_AT] = band;
+        told[VALUE_AT] = PLAN_SWITCH;
+        told[VALUE_AT + PLAN_PREVIOUS_AT] = previous;
+        told[VALUE_AT + PLAN_TARGET_AT] = target;
+        told[VALUE_AT + PLAN_CR3_AT..].copy_from_slice(&self.expected.record(target)[CR3_AT..][..8]);
         self.check_answer(what, frame, &told);
     }
 

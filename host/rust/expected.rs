@@ -13,7 +13,7 @@ pub const BEHIND: usize = 16;
 /// What stands in the image before there is one, and behind image and frame.
 pub const UNWRITTEN: u8 = 0xa5;
 
-const ALL_CORES: u64 = u64::MAX;
+pub const ALL_CORES: u64 = u64::MAX;
 
 /// The bands' slices, in microseconds.
 const SLICES: [u64; BANDS as usize] = [2_000, 5_000, 20_000];

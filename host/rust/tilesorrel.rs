@@ -16,10 +16,11 @@
 //! let slot = answer[VALUE_AT];                             // the slot that core 3 is to run
 //! ```
 //!
-//! Calls on one image must come one after another, as `&mut` demands: keep it in a lock, and take the lock for each.
-//! `rt staticlib frames` proves the library and makes target/staticlib/libframes.a, which needs nothing but memcpy;
-//! rustc finds it by `-L native=target/staticlib`. docs/host.md says how to build and link it and what to do about a
-//! refusal; docs/frames.md has every frame and answer with an example; docs/image.md has the image.
+//! Calls on one image must come one after another, as `&mut` demands: keep it in a lock, and take the lock for each. A
+//! call uses the SSE2 registers and the red zone, and up to `STACK_BYTES` of stack. `rt staticlib frames` proves the
+//! library and makes target/staticlib/libframes.a, which needs nothing but memcpy; rustc finds it by
+//! `-L native=target/staticlib`. docs/host.md says how to build and link it and what to do about a refusal, and has the
+//! image; docs/frames.md has every frame and answer with an example.
 //!
 //! Numbers of more than one byte are big-endian, in frames, answers and image. The names and numbers are those of
 //! include/tilesorrel.h, without its prefix.
@@ -51,7 +52,7 @@ unsafe extern "C" {
 pub enum Refusal {
     /// 7: the image does not have 3,275 bytes, or the answer buffer has under 51.
     WrongLength,
-    /// 8: the bytes are no image. Go back to one that was: docs/image.md has what is asked.
+    /// 8: the bytes are no image: somebody else wrote there. Go back to one you kept.
     NotAccepted,
     /// 9: the frame's first byte, length or band is wrong. Mend the caller.
     NoFrame,
@@ -132,9 +133,9 @@ pub const STACK_BYTES: usize = 65536;
 
 // ---- Calls: the first byte of a frame, and the frame's length ----
 //
-// Behind the first byte stand the fields, each with its number of bytes. A slot or a core takes 8 and may be any
-// number. "Comes back" is the answer's value, from `VALUE_AT` on; a refused call has none. What is said of no refusal
-// is never refused.
+// From byte 1 on stand the fields, one behind the other, each with its number of bytes. A slot or a core takes 8 and
+// may be any number. "Comes back" is the answer's value, from `VALUE_AT` on; a refused call has none. What is said of
+// no refusal is never refused.
 
 /// Makes a task in the lowest free slot: Blocked, on all cores. Enqueue or wake it next.
 ///
@@ -157,7 +158,7 @@ pub const TERMINATE: u8 = 0x02;
 /// The length of terminate's frame.
 pub const TERMINATE_BYTES: usize = 9;
 
-/// Takes a task out of its queue and makes it Blocked; a core that holds it goes on holding it until its next call.
+/// Takes a task out of its queue and makes it Blocked, with nothing consumed; a core that holds it goes on holding it.
 ///
 /// Fields: slot 8. Comes back: nothing. Refused: 3 if the slot is 64 or above or free, then 5 if it is Blocked.
 pub const BLOCK: u8 = 0x03;
@@ -178,9 +179,10 @@ pub const ENQUEUE: u8 = 0x05;
 /// The length of enqueue's frame.
 pub const ENQUEUE_BYTES: usize = 9;
 
-/// Picks a task for a core, which then holds it. The one that it held is not queued again.
+/// Picks a task for a core, which then holds it, or nobody if nobody waits who may use it. The task that it held is not
+/// queued: a Running one stays so, and is held by no core until it is enqueued. So tick or yield where it is to go on.
 ///
-/// Fields: core 8. Comes back: the slot, or `NONE` if nobody may run there or the core is 64 or above, 1 byte.
+/// Fields: core 8. Comes back: the slot, or `NONE`, 1 byte. A core of 64 or above gives `NONE`, and nothing is changed.
 pub const SCHEDULE: u8 = 0x06;
 /// The length of schedule's frame.
 pub const SCHEDULE_BYTES: usize = 9;
@@ -217,10 +219,9 @@ pub const PLAN: u8 = 0x0a;
 /// The length of plan's frame.
 pub const PLAN_BYTES: usize = 13;
 
-/// Whether a slot's mask permits a core, which is taken modulo 64; 0 for a slot of 64 or above. A query: it changes
-/// nothing.
+/// Whether a slot's mask permits a core, which is taken modulo 64. A query: it changes nothing.
 ///
-/// Fields: slot 8, core 8. Comes back: 0 or 1, 1 byte.
+/// Fields: slot 8, core 8. Comes back: 0 or 1, 1 byte; 0 for a slot of 64 or above.
 pub const CAN_RUN_ON_CORE: u8 = 0x0b;
 /// The length of its frame.
 pub const CAN_RUN_ON_CORE_BYTES: usize = 17;
@@ -291,24 +292,24 @@ pub const PLAN_CR3_AT: usize = 3;
 
 /// Create: no slot is free. Terminate a task first.
 pub const TABLE_FULL: u8 = 1;
-/// 64 entries stand in the queue. Proved never to come back from this library.
+/// 64 entries stand in the queue. It is proved never to come back.
 pub const QUEUE_FULL: u8 = 2;
-/// No such slot, task or core, or no holder that the call is about: see the call.
+/// No such slot or core, or nobody there whom the call is for: see the call.
 pub const NO_SUCH_TASK: u8 = 3;
 /// Enqueue: it waits in its queue. Nothing is to be done.
 pub const ALREADY_READY: u8 = 4;
 /// Block: it is Blocked. Nothing is to be done.
 pub const ALREADY_BLOCKED: u8 = 5;
-/// Wake: it is not Blocked; handoff: the holder is Ready. Nothing is to be done.
+/// Wake: it is not Blocked; handoff: it is Ready. Nothing is to be done.
 pub const NOT_BLOCKED: u8 = 6;
 
 // ---- Refusals 7 to 9: returned, with `REFUSED` added; here they come as a `Refusal`. Nothing was touched. ----
 
-/// A number returned is a length below this, or a refusal above.
+/// What the library's `step` returns is a length below this, or this and a refusal.
 pub const REFUSED: u64 = 256;
 /// The image does not have 3,275 bytes, or the answer buffer has under 51.
 pub const WRONG_LENGTH: u64 = 7;
-/// The bytes are no image. Go back to one that was: docs/image.md has what is asked.
+/// The bytes are no image: somebody else wrote there. Go back to one you kept.
 pub const NOT_ACCEPTED: u64 = 8;
 /// The frame's first byte, length or band is wrong. Mend the caller.
 pub const NO_FRAME: u64 = 9;
@@ -328,7 +329,7 @@ pub const BANDS: u8 = 3;
 
 /// It stands in its band's queue, once.
 pub const READY: u8 = 0;
-/// It was picked, and has not been queued or blocked since.
+/// It was picked, or woken while a core held it.
 pub const RUNNING: u8 = 1;
 /// It waits for a wake or an enqueue.
 pub const BLOCKED: u8 = 2;
@@ -339,9 +340,9 @@ pub const TERMINATED: u8 = 3;
 
 /// 4 bytes: the host's own number, which several tasks may share.
 pub const TID_AT: usize = 0;
-/// 1 byte.
+/// 1 byte: a band.
 pub const BAND_AT: usize = 4;
-/// 1 byte.
+/// 1 byte: a state.
 pub const STATE_AT: usize = 5;
 /// 8 bytes: the host's, kept as it was given.
 pub const CONTEXT_AT: usize = 6;
@@ -364,9 +365,9 @@ pub const RECORD_BYTES: usize = 47;
 
 /// Slot S's record is at S * `RECORD_BYTES`.
 pub const RECORDS_AT: usize = 0;
-/// Band B's queue is at this + B * `QUEUE_BYTES`: a length, then 64 slots.
+/// Band B's queue is at this + B * `QUEUE_BYTES`.
 pub const QUEUES_AT: usize = 3008;
-/// The slots stand from front to tail; those behind the length are 0.
+/// A length, then 64 slots from front to tail; those behind the length are 0.
 pub const QUEUE_BYTES: usize = 65;
 /// The slot that core C holds is at this + C; `NONE` if none.
 pub const HOLDERS_AT: usize = 3203;
