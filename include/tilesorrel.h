@@ -11,8 +11,9 @@
  *     frame[0] = TILESORREL_TICK;
  *     tilesorrel_put(frame + 1, 8, 3);
  *     tilesorrel_put(frame + 9, 4, 500);
- *     step(image, sizeof image, frame, sizeof frame, answer, sizeof answer);
- *     answer[TILESORREL_VALUE_AT];                             // the slot that core 3 is to run
+ *     if (step(image, sizeof image, frame, sizeof frame, answer, sizeof answer) < TILESORREL_REFUSED) {
+ *         run(answer[TILESORREL_VALUE_AT]);                    // the slot that core 3 is to run
+ *     }
  *
  * Calls on one image must come one after another: take a lock around each. A call uses the SSE2 registers and the red
  * zone, and up to TILESORREL_STACK_BYTES of stack. 'rt staticlib frames' proves the library and makes
@@ -70,16 +71,19 @@ uint64_t step(uint8_t *image, size_t image_len, const uint8_t *frame, size_t fra
  * ---- Calls: the first byte of a frame, and the frame's length ----
  *
  * From byte 1 on stand the fields, one behind the other, each with its number of bytes. A slot or a core takes 8 and
- * may be any number. "Comes back" is the answer's value, from TILESORREL_VALUE_AT on; a refused call has none. What is
- * said of no refusal is never refused.
+ * may be any number. So a slot or a core is at byte 1, a mask or microseconds at byte 9. "Comes back" is the answer's
+ * value, from TILESORREL_VALUE_AT on; a refused call has none. A call that names no refusal is refused with none of 1 to
+ * 6. The names that end in _BYTES here are lengths of frames.
  */
 
 /* Makes a task in the lowest free slot: Blocked, on all cores. Enqueue or wake it next.
- * Fields: tid 4, band 1, context 8, cr3 8, rsp0 8. Comes back: the slot, 1 byte. Refused: 1 if no slot is free. */
+ * Fields: tid 4, band 1, context 8, cr3 8, rsp0 8 (at bytes 1, 5, 6, 14, 22). Comes back: the slot, 1 byte. Refused: 1
+ * if no slot is free. */
 #define TILESORREL_CREATE 0x00
 #define TILESORREL_CREATE_BYTES 30
 
-/* Sets the cores that a slot may use: bit N of the mask permits core N, and a mask of 0 is taken as all of them.
+/* Sets the cores that a slot may use: bit N of the mask permits core N, and a mask of 0 is taken as all of them. A core
+ * that holds the task goes on with it. Create sets all again.
  * Fields: slot 8, mask 8. Comes back: nothing. Refused: 3 if the slot is 64 or above; a free one will do. */
 #define TILESORREL_AFFINITY 0x01
 #define TILESORREL_AFFINITY_BYTES 17
@@ -99,20 +103,23 @@ uint64_t step(uint8_t *image, size_t image_len, const uint8_t *frame, size_t fra
 #define TILESORREL_WAKE 0x04
 #define TILESORREL_WAKE_BYTES 9
 
-/* Puts a Blocked or Running task at the tail of its band: Ready. A core that holds it goes on holding it.
+/* Puts a Blocked or Running task at the tail of its band: Ready. A core that holds it goes on holding it, while another
+ * may pick it: so enqueue tasks that no core holds, and wake those that were blocked.
  * Fields: slot 8. Comes back: nothing. Refused: 3 if the slot is 64 or above or free, then 4 if it is Ready. */
 #define TILESORREL_ENQUEUE 0x05
 #define TILESORREL_ENQUEUE_BYTES 9
 
 /* Picks a task for a core, which then holds it, or nobody if nobody waits who may use it. The task that it held is not
- * queued: a Running one stays so, and is held by no core until it is enqueued. So tick or yield where it is to go on.
+ * queued: a Running one stays Running, in no queue and on no core, until it is enqueued, or blocked and woken. So tick
+ * or yield where it is to go on.
  * Fields: core 8. Comes back: the slot, or TILESORREL_NONE, 1 byte. A core of 64 or above gives TILESORREL_NONE, and
  * nothing is changed. */
 #define TILESORREL_SCHEDULE 0x06
 #define TILESORREL_SCHEDULE_BYTES 9
 
-/* A core's timer: charges the task that it holds, and picks another where its slice is over, where it is Blocked, where
- * an earlier band waits, or where there is none.
+/* A core's timer: adds the time to the task that it holds. Where its slice is over, or a task that may use this core
+ * waits in an earlier band, it goes to the tail of its band, and there is a pick, which may be it again. So too where it
+ * is Blocked, without being queued, and where the core holds nobody.
  * Fields: core 8, elapsed microseconds 4. Comes back: the slot to run, or TILESORREL_NONE, 1 byte. A core of 64 or above
  * gives TILESORREL_NONE, and nothing is changed. */
 #define TILESORREL_TICK 0x07
@@ -145,7 +152,7 @@ uint64_t step(uint8_t *image, size_t image_len, const uint8_t *frame, size_t fra
 #define TILESORREL_TASK_INDEX_FOR_TID 0x0c
 #define TILESORREL_TASK_INDEX_FOR_TID_BYTES 5
 
-/* A slot's record. A query.
+/* A slot's record. A query. A free slot has one too, with what its last task had: look at in use.
  * Fields: slot 8. Comes back: 1 and the record, 48 bytes; or 0 for a slot of 64 or above, 1 byte. */
 #define TILESORREL_TASK 0x0d
 #define TILESORREL_TASK_BYTES 9
@@ -155,7 +162,7 @@ uint64_t step(uint8_t *image, size_t image_len, const uint8_t *frame, size_t fra
 #define TILESORREL_CURRENT_TASK_ON_CPU 0x0e
 #define TILESORREL_CURRENT_TASK_ON_CPU_BYTES 9
 
-/* The time that ticks and plans have reported, in microseconds. A query.
+/* The microseconds that ticks and plans have reported, added up over all cores: no clock. A query.
  * Fields: none. Comes back: 8 bytes. */
 #define TILESORREL_SYSTEM_MICROSECONDS 0x0f
 #define TILESORREL_SYSTEM_MICROSECONDS_BYTES 1
@@ -175,7 +182,8 @@ uint64_t step(uint8_t *image, size_t image_len, const uint8_t *frame, size_t fra
 #define TILESORREL_DONE 0x00 /* the status of a call that is not refused */
 #define TILESORREL_NONE 0xff /* no slot, no core, no band; as the target of a plan: idle */
 
-/* A plan is 0, go on as before, 1 byte; or 1 and what follows, 11 bytes. Places count from TILESORREL_VALUE_AT. */
+/* A plan is 0, 1 byte: the core holds whom it held before the call, or still nobody. Or it is 1 and what follows, 11
+ * bytes. Places count from TILESORREL_VALUE_AT. */
 #define TILESORREL_PLAN_SWITCH 1      /* the first byte, where the core is to switch */
 #define TILESORREL_PLAN_PREVIOUS_AT 1 /* the slot that the core held, or TILESORREL_NONE */
 #define TILESORREL_PLAN_TARGET_AT 2   /* the slot that it is to run, or TILESORREL_NONE: idle */
@@ -184,17 +192,17 @@ uint64_t step(uint8_t *image, size_t image_len, const uint8_t *frame, size_t fra
 /* ---- Refusals 1 to 6: an answer's status. The call changed nothing and picked nobody. ---- */
 
 #define TILESORREL_TABLE_FULL 1      /* create: no slot is free. Terminate a task first. */
-#define TILESORREL_QUEUE_FULL 2      /* 64 entries stand in the queue. It is proved never to come back. */
+#define TILESORREL_QUEUE_FULL 2      /* 64 entries stand in the queue. It is proved that this is never answered. */
 #define TILESORREL_NO_SUCH_TASK 3    /* no such slot or core, or nobody there whom the call is for: see the call. */
 #define TILESORREL_ALREADY_READY 4   /* enqueue: it waits in its queue. Nothing is to be done. */
 #define TILESORREL_ALREADY_BLOCKED 5 /* block: it is Blocked. Nothing is to be done. */
-#define TILESORREL_NOT_BLOCKED 6     /* wake: it is not Blocked; handoff: it is Ready. Nothing is to be done. */
+#define TILESORREL_NOT_BLOCKED 6 /* wake: it is not Blocked, so it runs or waits; handoff: it is Ready, so schedule. */
 
 /* ---- Refusals 7 to 9: returned, with TILESORREL_REFUSED added. Nothing was touched. ---- */
 
 #define TILESORREL_REFUSED 256    /* what step returns is a length below this, or this and a refusal */
 #define TILESORREL_WRONG_LENGTH 7 /* the image does not have 3,275 bytes, or the answer buffer has under 51 */
-#define TILESORREL_NOT_ACCEPTED 8 /* the bytes are no image: somebody else wrote there. Go back to one you kept. */
+#define TILESORREL_NOT_ACCEPTED 8 /* the bytes are no image: not new_image's, or somebody else wrote there. */
 #define TILESORREL_NO_FRAME 9     /* the frame's first byte, length or band is wrong. Mend the caller. */
 
 /* ---- Bands: what a task is for. An earlier band runs before a later one. ---- */
@@ -211,7 +219,7 @@ uint64_t step(uint8_t *image, size_t image_len, const uint8_t *frame, size_t fra
 #define TILESORREL_BLOCKED 2    /* it waits for a wake or an enqueue */
 #define TILESORREL_TERMINATED 3 /* the slot is free */
 
-/* ---- A record's bytes ---- */
+/* ---- A record's bytes, in an image and behind the 1 of TILESORREL_TASK ---- */
 
 #define TILESORREL_TID_AT 0       /* 4 bytes: the host's own number, which several tasks may share */
 #define TILESORREL_BAND_AT 4      /* 1: a band */

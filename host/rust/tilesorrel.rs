@@ -52,7 +52,7 @@ unsafe extern "C" {
 pub enum Refusal {
     /// 7: the image does not have 3,275 bytes, or the answer buffer has under 51.
     WrongLength,
-    /// 8: the bytes are no image: somebody else wrote there. Go back to one you kept.
+    /// 8: the bytes are no image: not `new_image`'s, or somebody else wrote there. Go back to one you kept.
     NotAccepted,
     /// 9: the frame's first byte, length or band is wrong. Mend the caller.
     NoFrame,
@@ -62,7 +62,7 @@ pub enum Refusal {
 }
 
 impl Refusal {
-    /// The refusal's number: 7, 8 or 9. `Other` gives the number that was returned.
+    /// The refusal's number: 7, 8 or 9. `Other`, which is told from these by matching, gives the number returned.
     pub fn number(self) -> u64 {
         match self {
             Refusal::WrongLength => WRONG_LENGTH,
@@ -134,17 +134,19 @@ pub const STACK_BYTES: usize = 65536;
 // ---- Calls: the first byte of a frame, and the frame's length ----
 //
 // From byte 1 on stand the fields, one behind the other, each with its number of bytes. A slot or a core takes 8 and
-// may be any number. "Comes back" is the answer's value, from `VALUE_AT` on; a refused call has none. What is said of
-// no refusal is never refused.
+// may be any number. So a slot or a core is at byte 1, a mask or microseconds at byte 9. "Comes back" is the answer's
+// value, from `VALUE_AT` on; a refused call has none. A call that names no refusal is refused with none of 1 to 6.
 
 /// Makes a task in the lowest free slot: Blocked, on all cores. Enqueue or wake it next.
 ///
-/// Fields: tid 4, band 1, context 8, cr3 8, rsp0 8. Comes back: the slot, 1 byte. Refused: 1 if no slot is free.
+/// Fields: tid 4, band 1, context 8, cr3 8, rsp0 8 (at bytes 1, 5, 6, 14, 22). Comes back: the slot, 1 byte. Refused: 1
+/// if no slot is free.
 pub const CREATE: u8 = 0x00;
 /// The length of create's frame.
 pub const CREATE_BYTES: usize = 30;
 
-/// Sets the cores that a slot may use: bit N of the mask permits core N, and a mask of 0 is taken as all of them.
+/// Sets the cores that a slot may use: bit N of the mask permits core N, and a mask of 0 is taken as all of them. A core
+/// that holds the task goes on with it. Create sets all again.
 ///
 /// Fields: slot 8, mask 8. Comes back: nothing. Refused: 3 if the slot is 64 or above; a free one will do.
 pub const AFFINITY: u8 = 0x01;
@@ -172,7 +174,8 @@ pub const WAKE: u8 = 0x04;
 /// The length of wake's frame.
 pub const WAKE_BYTES: usize = 9;
 
-/// Puts a Blocked or Running task at the tail of its band: Ready. A core that holds it goes on holding it.
+/// Puts a Blocked or Running task at the tail of its band: Ready. A core that holds it goes on holding it, while another
+/// may pick it: so enqueue tasks that no core holds, and wake those that were blocked.
 ///
 /// Fields: slot 8. Comes back: nothing. Refused: 3 if the slot is 64 or above or free, then 4 if it is Ready.
 pub const ENQUEUE: u8 = 0x05;
@@ -180,15 +183,17 @@ pub const ENQUEUE: u8 = 0x05;
 pub const ENQUEUE_BYTES: usize = 9;
 
 /// Picks a task for a core, which then holds it, or nobody if nobody waits who may use it. The task that it held is not
-/// queued: a Running one stays so, and is held by no core until it is enqueued. So tick or yield where it is to go on.
+/// queued: a Running one stays Running, in no queue and on no core, until it is enqueued, or blocked and woken. So tick
+/// or yield where it is to go on.
 ///
 /// Fields: core 8. Comes back: the slot, or `NONE`, 1 byte. A core of 64 or above gives `NONE`, and nothing is changed.
 pub const SCHEDULE: u8 = 0x06;
 /// The length of schedule's frame.
 pub const SCHEDULE_BYTES: usize = 9;
 
-/// A core's timer: charges the task that it holds, and picks another where its slice is over, where it is Blocked,
-/// where an earlier band waits, or where there is none.
+/// A core's timer: adds the time to the task that it holds. Where its slice is over, or a task that may use this core
+/// waits in an earlier band, it goes to the tail of its band, and there is a pick, which may be it again. So too where
+/// it is Blocked, without being queued, and where the core holds nobody.
 ///
 /// Fields: core 8, elapsed microseconds 4. Comes back: the slot to run, or `NONE`, 1 byte. A core of 64 or above gives
 /// `NONE`, and nothing is changed.
@@ -233,7 +238,7 @@ pub const TASK_INDEX_FOR_TID: u8 = 0x0c;
 /// The length of its frame.
 pub const TASK_INDEX_FOR_TID_BYTES: usize = 5;
 
-/// A slot's record. A query.
+/// A slot's record. A query. A free slot has one too, with what its last task had: look at in use.
 ///
 /// Fields: slot 8. Comes back: 1 and the record, 48 bytes; or 0 for a slot of 64 or above, 1 byte.
 pub const TASK: u8 = 0x0d;
@@ -247,7 +252,7 @@ pub const CURRENT_TASK_ON_CPU: u8 = 0x0e;
 /// The length of its frame.
 pub const CURRENT_TASK_ON_CPU_BYTES: usize = 9;
 
-/// The time that ticks and plans have reported, in microseconds. A query.
+/// The microseconds that ticks and plans have reported, added up over all cores: no clock. A query.
 ///
 /// Fields: none. Comes back: 8 bytes.
 pub const SYSTEM_MICROSECONDS: u8 = 0x0f;
@@ -277,7 +282,8 @@ pub const DONE: u8 = 0x00;
 /// No slot, no core, no band; as the target of a plan: idle.
 pub const NONE: u8 = 0xff;
 
-// A plan is 0, go on as before, 1 byte; or 1 and what follows, 11 bytes. Places count from `VALUE_AT`.
+// A plan is 0, 1 byte: the core holds whom it held before the call, or still nobody. Or it is 1 and what follows, 11
+// bytes. Places count from `VALUE_AT`.
 
 /// A plan's first byte, where the core is to switch.
 pub const PLAN_SWITCH: u8 = 1;
@@ -292,7 +298,7 @@ pub const PLAN_CR3_AT: usize = 3;
 
 /// Create: no slot is free. Terminate a task first.
 pub const TABLE_FULL: u8 = 1;
-/// 64 entries stand in the queue. It is proved never to come back.
+/// 64 entries stand in the queue. It is proved that this is never answered.
 pub const QUEUE_FULL: u8 = 2;
 /// No such slot or core, or nobody there whom the call is for: see the call.
 pub const NO_SUCH_TASK: u8 = 3;
@@ -300,7 +306,7 @@ pub const NO_SUCH_TASK: u8 = 3;
 pub const ALREADY_READY: u8 = 4;
 /// Block: it is Blocked. Nothing is to be done.
 pub const ALREADY_BLOCKED: u8 = 5;
-/// Wake: it is not Blocked; handoff: it is Ready. Nothing is to be done.
+/// Wake: it is not Blocked, so it runs or waits; handoff: it is Ready, so schedule.
 pub const NOT_BLOCKED: u8 = 6;
 
 // ---- Refusals 7 to 9: returned, with `REFUSED` added; here they come as a `Refusal`. Nothing was touched. ----
@@ -309,7 +315,7 @@ pub const NOT_BLOCKED: u8 = 6;
 pub const REFUSED: u64 = 256;
 /// The image does not have 3,275 bytes, or the answer buffer has under 51.
 pub const WRONG_LENGTH: u64 = 7;
-/// The bytes are no image: somebody else wrote there. Go back to one you kept.
+/// The bytes are no image: not `new_image`'s, or somebody else wrote there.
 pub const NOT_ACCEPTED: u64 = 8;
 /// The frame's first byte, length or band is wrong. Mend the caller.
 pub const NO_FRAME: u64 = 9;
@@ -336,7 +342,7 @@ pub const BLOCKED: u8 = 2;
 /// The slot is free.
 pub const TERMINATED: u8 = 3;
 
-// ---- A record's bytes ----
+// ---- A record's bytes, in an image and behind the 1 of `TASK` ----
 
 /// 4 bytes: the host's own number, which several tasks may share.
 pub const TID_AT: usize = 0;
