@@ -72,8 +72,8 @@ uint64_t step(uint8_t *image, size_t image_len, const uint8_t *frame, size_t fra
  *
  * From byte 1 on stand the fields, one behind the other, each with its number of bytes. A slot or a core takes 8 and
  * may be any number. So a slot or a core is at byte 1, a mask or microseconds at byte 9. "Comes back" is the answer's
- * value, from TILESORREL_VALUE_AT on; a refused call has none. A call that names no refusal is refused with none of 1 to
- * 6. The names that end in _BYTES here are lengths of frames.
+ * value, from TILESORREL_VALUE_AT on; a refused call has none. A call that names no refusal is refused with none of 1
+ * to 6. The names that end in _BYTES here are lengths of frames.
  */
 
 /* Makes a task in the lowest free slot: Blocked, on all cores. Enqueue or wake it next.
@@ -118,10 +118,10 @@ uint64_t step(uint8_t *image, size_t image_len, const uint8_t *frame, size_t fra
 #define TILESORREL_SCHEDULE_BYTES 9
 
 /* A core's timer: adds the time to the task that it holds. Where its slice is over, or a task that may use this core
- * waits in an earlier band, it goes to the tail of its band, and there is a pick, which may be it again. So too where it
- * is Blocked, without being queued, and where the core holds nobody.
- * Fields: core 8, elapsed microseconds 4. Comes back: the slot to run, or TILESORREL_NONE, 1 byte. A core of 64 or above
- * gives TILESORREL_NONE, and nothing is changed. */
+ * waits in an earlier band, it goes to the tail of its band, and there is a pick, which may be it again. So too where
+ * it is Blocked, without being queued, and where the core holds nobody.
+ * Fields: core 8, elapsed microseconds 4. Comes back: the slot to run, or TILESORREL_NONE, 1 byte. A core of 64 or
+ * above gives TILESORREL_NONE, and nothing is changed. */
 #define TILESORREL_TICK 0x07
 #define TILESORREL_TICK_BYTES 13
 

@@ -53,8 +53,8 @@ static bool may_be_refused(uint8_t call, uint8_t status)
            (call == TILESORREL_YIELD && status == TILESORREL_NO_SUCH_TASK);
 }
 
-/* Does a call for a core. A real core has interrupts off here, and has saved its task's registers before: once the lock is
- * given back, another core may run that task. The answer goes to the core's own buffer, since it is read after that.
+/* Does a call for a core. A real core has interrupts off here, and has saved its task's registers before: once the lock
+ * is given back, another core may run that task. The answer goes to the core's own buffer, since it is read after that.
  * Returns TILESORREL_DONE or the number of the refusal, 1 to 9. */
 static uint8_t ask(struct core *self, const uint8_t *frame, size_t length)
 {

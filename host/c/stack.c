@@ -1,8 +1,8 @@
 /*
  * How much stack `step` and `new_image` take. Each call is made on a stack that was filled with marks, and the lowest
- * byte that is no mark afterwards says how far down it went. Made are all calls, in an order drawn by dice, on slots and
- * cores that there are and that there are not; some are refused, or no frame. Each is a check: it went no deeper than
- * the header says. So is, at the end, that every call was done, and that those that pick did pick.
+ * byte that is no mark afterwards says how far down it went. Made are all calls, in an order drawn by dice, on slots
+ * and cores that there are and that there are not; some are refused, or no frame. Each is a check: it went no deeper
+ * than the header says. So is, at the end, that every call was done, and that those that pick did pick.
  */
 #include "frames.h"
 #include "tilesorrel.h"

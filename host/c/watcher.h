@@ -1,8 +1,8 @@
 /*
- * The watcher of kernel.c. It looks at the image after each call, under the kernel's lock, and at the image before: is it
- * accepted, and is no Ready task lost? What it looks for in the bytes is written here from docs/host.md, and not asked of
- * the library. It is tried on damaged images first; and it counts what the cores do, so that a run in which nothing
- * happens fails too.
+ * The watcher of kernel.c. It looks at the image after each call, under the kernel's lock, and at the image before: is
+ * it accepted, and is no Ready task lost? What it looks for in the bytes is written here from docs/host.md, and not
+ * asked of the library. It is tried on damaged images first; and it counts what the cores do, so that a run in which
+ * nothing happens fails too.
  */
 #ifndef WATCHER_H
 #define WATCHER_H

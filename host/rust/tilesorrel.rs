@@ -145,8 +145,8 @@ pub const CREATE: u8 = 0x00;
 /// The length of create's frame.
 pub const CREATE_BYTES: usize = 30;
 
-/// Sets the cores that a slot may use: bit N of the mask permits core N, and a mask of 0 is taken as all of them. A core
-/// that holds the task goes on with it. Create sets all again.
+/// Sets the cores that a slot may use: bit N of the mask permits core N, and a mask of 0 is taken as all of them. A
+/// core that holds the task goes on with it. Create sets all again.
 ///
 /// Fields: slot 8, mask 8. Comes back: nothing. Refused: 3 if the slot is 64 or above; a free one will do.
 pub const AFFINITY: u8 = 0x01;
@@ -174,8 +174,8 @@ pub const WAKE: u8 = 0x04;
 /// The length of wake's frame.
 pub const WAKE_BYTES: usize = 9;
 
-/// Puts a Blocked or Running task at the tail of its band: Ready. A core that holds it goes on holding it, while another
-/// may pick it: so enqueue tasks that no core holds, and wake those that were blocked.
+/// Puts a Blocked or Running task at the tail of its band: Ready. A core that holds it goes on holding it, while
+/// another may pick it: so enqueue tasks that no core holds, and wake those that were blocked.
 ///
 /// Fields: slot 8. Comes back: nothing. Refused: 3 if the slot is 64 or above or free, then 4 if it is Ready.
 pub const ENQUEUE: u8 = 0x05;
