@@ -175,7 +175,7 @@ uint64_t step(uint8_t *image, size_t image_len, const uint8_t *frame, size_t fra
 /* ---- An answer's bytes ---- */
 
 #define TILESORREL_STATUS_AT 0    /* 0, or the number of a refusal */
-#define TILESORREL_PICK_SLOT_AT 1 /* the slot that was picked in this call, or TILESORREL_NONE */
+#define TILESORREL_PICK_SLOT_AT 1 /* the slot that was picked in this call, maybe the same again, or TILESORREL_NONE */
 #define TILESORREL_PICK_BAND_AT 2 /* the band that it was picked from, or TILESORREL_NONE */
 #define TILESORREL_VALUE_AT 3     /* what comes back, by the call */
 

@@ -90,6 +90,10 @@ static const char *fault(const uint8_t *was, uint8_t *now, const uint8_t *frame,
             return what;
         }
     }
+    *slot = answer[TILESORREL_PICK_SLOT_AT];
+    if (*slot >= TILESORREL_SLOTS && *slot != TILESORREL_NONE) {
+        return WRONG_PICK;
+    }
     *slot = TILESORREL_NONE;
     if (step(now, TILESORREL_IMAGE_BYTES, query, sizeof query, told, sizeof told) >= TILESORREL_REFUSED) {
         return NOT_ACCEPTED;
@@ -140,6 +144,7 @@ static void watch(uint8_t *image, uint8_t core, const uint8_t *frame, const uint
     const char *what = fault(before, image, frame, answer, &slot);
     if (status != TILESORREL_DONE && !may_be_refused) {
         what = REFUSED;
+        slot = TILESORREL_NONE;
     }
     if (what != NULL) {
         snprintf(words, sizeof words, "core %u, %s of %u, status %u: %s: slot", core, call_names[frame[0]],
@@ -168,7 +173,8 @@ static void try_watcher(const uint8_t *image)
     uint8_t *state = now + at(slot, TILESORREL_STATE_AT);
     memcpy(now, image, sizeof now);
     expect(NULL, TILESORREL_NONE, image, now, TILESORREL_NONE);
-    expect(WRONG_PICK, slot, image, now, slot); /* it still waits */
+    expect(WRONG_PICK, slot, image, now, slot);                         /* it still waits */
+    expect(WRONG_PICK, TILESORREL_SLOTS, image, now, TILESORREL_SLOTS); /* there is no such slot */
     *state = TILESORREL_BLOCKED;
     expect(MISPLACED, slot, image, now, TILESORREL_NONE); /* its entry is still there */
     queue[queue[0]] = 0;

@@ -270,7 +270,7 @@ pub const HOLDER_BYTES: usize = 9;
 
 /// 0, or the number of a refusal.
 pub const STATUS_AT: usize = 0;
-/// The slot that was picked in this call, or `NONE`.
+/// The slot that was picked in this call, maybe the same again, or `NONE`.
 pub const PICK_SLOT_AT: usize = 1;
 /// The band that it was picked from, or `NONE`.
 pub const PICK_BAND_AT: usize = 2;
