@@ -33,6 +33,7 @@ static void made_new(void)
 
 static void made(void)
 {
+    check_number("create", "the longest frame's length", TILESORREL_CREATE_BYTES, TILESORREL_FRAME_BYTES);
     create(7, TILESORREL_USER_INTERACTIVE, 0x1);
     expect_created(0);
     answered("create tid 7 in band 0", "00ffff 00");

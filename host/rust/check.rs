@@ -35,6 +35,7 @@ fn made_new(host: &mut Host) {
 // ---- Tasks, and cores that tick ----
 
 fn made(host: &mut Host) {
+    host.check_number("create", "the longest frame's length", CREATE_BYTES, FRAME_BYTES);
     let task = Task::new(7, USER_INTERACTIVE, 0x1);
     host.expected.created(0, &task);
     host.answered("create tid 7 in band 0", &Frame::create(&task), "00ffff 00");

@@ -60,6 +60,11 @@ impl Host {
         Host { image, expected: Expected::unwritten(), passed: 0, checks: Checks::default() }
     }
 
+    /// A number that is known without a call.
+    pub fn check_number(&mut self, what: &str, of: &str, is: usize, should: usize) {
+        self.checks.value(what, of, is, should);
+    }
+
     /// A new image is asked for in that many bytes.
     pub fn made_new(&mut self, what: &str, image_len: usize, result: Result<(), Refusal>) {
         let returned = new_image(&mut self.image[..image_len]);

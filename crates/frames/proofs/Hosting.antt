@@ -46,11 +46,11 @@ hostNumber-small NoFrame = omega arith
 -- ---- a new image
 
 -- what `new_image` gets from the writer, in either case of its test
-pub new-made : {s : State} {before after : List ℕ} {r : Bool} → s ≡ newState → WritesImage s before after r →
-    made (cond r 0 (refusalReturned WrongLength)) after ≡ hostNew before
+pub new-made : {s : State} {before after : List ℕ} {r done : Bool} → s ≡ newState → WritesImage s before after r → r ≡ done →
+    made (cond done 0 (refusalReturned WrongLength)) after ≡ hostNew before
 unfolding hostNew
-new-made {s} {before} new writes =
-    (λ i. made (cond (writes .done-is i) 0 (refusalReturned WrongLength)) (writes .image-is i))
+new-made {s} {before} new writes is =
+    (λ i. made (cond ((sym is ∙ writes .done-is) i) 0 (refusalReturned WrongLength)) (writes .image-is i))
     ∙ ap (λ t. made (cond fits 0 (refusalReturned WrongLength)) (cond fits (imageOf t) before)) new
     ∙ either fits
   where

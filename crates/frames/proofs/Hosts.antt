@@ -84,10 +84,10 @@ new-image = let has : HasImage newState = new-reached [] tt in (has .image-accep
 -- so what `new_image` writes is accepted, and stands for new
 pub made-accepted : (image : List ℕ) → hostNew image .returned ≡ 0 → AcceptedImage (hostNew image .image) × (stateAt (hostNew image .image) ≡ newState)
 unfolding hostNew
-made-accepted image = by-if IsNew (eqb (length image) imageLength) (λ _ _. new-image) (λ _ h. absurd (omega (arith, h)))
+made-accepted image = by-if StandsForNew (eqb (length image) imageLength) (λ _ _. new-image) (λ _ h. absurd (omega (arith, h)))
   where
-    IsNew : Made → Type 0
-    IsNew m = m .returned ≡ 0 → AcceptedImage (m .image) × (stateAt (m .image) ≡ newState)
+    StandsForNew : Made → Type 0
+    StandsForNew m = m .returned ≡ 0 → AcceptedImage (m .image) × (stateAt (m .image) ≡ newState)
 
 module _ (image : List ℕ) (a : AcceptedImage image) where
   -- neither 7 nor 8
