@@ -50,3 +50,4 @@ mod OnCores
 mod OnTicks
 mod OnPlans
 mod Answers
+mod OnLent

@@ -14,6 +14,7 @@
 // that hold for all of them.
 mod answer;
 mod call;
+mod lent;
 mod picking;
 mod queries;
 mod scheduler;
