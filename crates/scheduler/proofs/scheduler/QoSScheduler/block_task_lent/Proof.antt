@@ -109,7 +109,7 @@ module _ {M : Type 1} (𝓤 : URA M) (H : Heap 𝓤) (A : Atoms 𝓤) (W : Given
         enter ! C Λ code.function (vptr b o ∷ L-vals slot) _ $
         alloc1 ! (λ l₀. alloc1 ! (λ l₁. alloc1 ! (λ l₂. alloc1 ! (λ l₃. alloc1 ! (λ l₄. alloc0 ! $ params1 ! $ pass1 ! (init ! 6 refl (tt, tt)) $ pass1 ! (init ! 4 refl (LL.lawful L.the-type L′.the-laws 𝓤 H A W .typed slot _ slot-is .0)) $ pass0 ! $
         move ! (10 ∷ 11 ∷ 12 ∷ 6 ∷ 8 ∷ 0 ∷ 2 ∷ []) $
-        lent-call ! (record { κ = κ; q = q; b = b; o = o; γ = γ; answer = l₀; lent = l₁; reply = l₃; state = l₄ }) s (method valid) fm known refl refl
+        lent-call ! _ (record { answer-is = refl; state-is = refl; reply-is = refl }) (record { κ = κ; q = q; b = b; o = o; γ = γ; answer = l₀; lent = l₁; reply = l₃; state = l₄ }) s (method valid) fm known refl refl
         (λ i w. and-then ! (load ! (from ! (stop !)) (look ! 11 refl)) (no-more !))
         (λ r a is m. forget ! 9 refl $ move ! (4 ∷ 12 ∷ []) $ free1 ! $ move ! (3 ∷ 10 ∷ []) $ free1 ! $ move ! (7 ∷ 8 ∷ []) $ free1 ! $ move ! (4 ∷ 6 ∷ []) $ free1 ! $ move ! (3 ∷ 4 ∷ []) $ free1 ! $ free0 ! $
         keep ! (0 ∷ 1 ∷ 2 ∷ []) $ by ! (exits r a is m)))))))

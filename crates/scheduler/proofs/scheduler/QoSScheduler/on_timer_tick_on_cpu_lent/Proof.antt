@@ -105,7 +105,7 @@ module _ {M : Type 1} (𝓤 : URA M) (H : Heap 𝓤) (A : Atoms 𝓤) (W : Given
         enter ! C Λ code.function (vptr b o ∷ vint w64 core ∷ vint w32 elapsed ∷ []) _ $
         alloc1 ! (λ l₀. alloc1 ! (λ l₁. alloc1 ! (λ l₂. alloc1 ! (λ l₃. alloc1 ! (λ l₄. alloc1 ! (λ l₅. alloc0 ! $ params1 ! $ pass1 ! (init ! 8 refl (tt, tt)) $ pass1 ! (init ! 6 refl (tt, record { fits = core-fits })) $ pass1 ! (init ! 4 refl (tt, record { fits = elapsed-fits })) $ pass0 ! $
         move ! (12 ∷ 13 ∷ 14 ∷ 8 ∷ 10 ∷ 0 ∷ 2 ∷ []) $
-        lent-call ! (record { κ = κ; q = q; b = b; o = o; γ = γ; answer = l₀; lent = l₁; reply = l₄; state = l₅ }) s (method valid) fm known refl refl
+        lent-call ! _ (record { answer-is = refl; state-is = refl; reply-is = refl }) (record { κ = κ; q = q; b = b; o = o; γ = γ; answer = l₀; lent = l₁; reply = l₄; state = l₅ }) s (method valid) fm known refl refl
         (λ i w. and-then ! (load ! (from ! (stop !)) (look ! 13 refl)) (and-then ! (load ! (from ! (stop !)) (look ! 11 refl)) (no-more !)))
         (λ r a is m. forget ! 9 refl $ forget ! 11 refl $ move ! (4 ∷ 14 ∷ []) $ free1 ! $ move ! (3 ∷ 12 ∷ []) $ free1 ! $ move ! (9 ∷ 10 ∷ []) $ free1 ! $ move ! (7 ∷ 8 ∷ []) $ free1 ! $ move ! (4 ∷ 6 ∷ []) $ free1 ! $ move ! (3 ∷ 4 ∷ []) $ free1 ! $ free0 ! $
         keep ! (0 ∷ 1 ∷ 2 ∷ []) $ by ! (exits r a is m))))))))
