@@ -20,7 +20,7 @@ use Rattle.scheduler.specs.Stretch.{Event, events, breaks, picks}
 use Rattle.scheduler.specs.Demand3.{Point}
 use Rattle.scheduler.specs.Longest.{Longest}
 use Rattle.scheduler.specs.Scheduler.{queuesOf, abs, Valid, IsNew, Meets}
-use Rattle.scheduler.specs.History.{Made, History, left, callsOf, happened, stretchIn, outcomeOf, CodePoint, CodeClaim}
+use Rattle.scheduler.specs.History.{Made, History, Done, byValue, onLent, Mixed, madeOf, left, callsOf, happened, stretchIn, outcomeOf, CodePoint, CodeClaim}
 use Rattle.scheduler.proofs.Calls.{new-accepted, call-accepted}
 use Rattle.scheduler.proofs.Stretches.{longest}
 use Rattle.scheduler.proofs.Waiting.{rules-demand3}
@@ -48,6 +48,13 @@ history-cut s [] b h = (tt, h)
 history-cut s (m ∷ a) b h =
     let parts : History (m .reply .state) a × History (left (m .reply .state) a) b = history-cut (m .reply .state) a b (h .1) in
     ((h .0, parts .0), parts .1)
+
+-- calls on a lent state beside calls by value make a history
+pub mixed-history : (s : QoSScheduler) (done : List Done) → Mixed s done → History s (map madeOf done)
+unfolding Mixed History madeOf
+mixed-history s [] h = tt
+mixed-history s (byValue call reply ∷ rest) h = (h .0, mixed-history (reply .state) rest (h .1))
+mixed-history s (onLent call answer after ∷ rest) h = (h .0, mixed-history after rest (h .1))
 
 -- ---- its states, answers and events are the rules'
 
@@ -107,6 +114,10 @@ pub code-demand3 : (s : QoSScheduler) → Valid s → (made : List Made) → His
 code-demand3 s v made h past next cut =
     let parts : History s past × History (left s past) next = history-cut s past next (subst (History s) (sym cut) h) in
     code-point s v past next (parts .0) (parts .1)
+
+-- the same where some of the calls were on a lent state
+pub mixed-demand3 : (s : QoSScheduler) → Valid s → (done : List Done) → Mixed s done → CodeClaim (abs s) s (map madeOf done)
+mixed-demand3 s v done h = code-demand3 s v (map madeOf done) (mixed-history s done h)
 
 -- X's stretch in a history is as long as can be
 pub stretchIn-longest : (x : ℕ) (s : QoSScheduler) (next : List Made) → Longest (breaks x) (picks x) (happened s next) (stretchIn x s next)

@@ -31,6 +31,9 @@ pub mod Stretches
 pub mod Worked
 pub mod Asked
 pub mod Histories
+pub mod MachineValues
+pub mod Lending
+pub mod Loans
 pub mod Says
 pub mod Stored
 pub mod Invariant

@@ -1,10 +1,12 @@
 -- Demands 2 and 3 on the code: histories of calls that keep their contract, and what is claimed of each. The contract of `apply` and of the
--- methods of the eleven calls is `Meets`, so whatever calls they are given, in whatever order, make a history.
+-- methods of the eleven calls is `Meets`, and that of block and tick on a lent state is `MeetsLent`, so whatever calls they are given, in whatever
+-- order, make a history.
 use mathlib.Core.Path.{_≡_}
 use mathlib.Core.List.{List, [], _∷_, _++_, map}
 use Prim.Native.Nat.{ℕ, _<_}
 use Rattle.records.specs.declared.state.ThreadState.the-variants.{Ready}
 use Rattle.records.specs.Band.{slice}
+use Rattle.scheduler.specs.declared.answer.Answer.{Answer}
 use Rattle.scheduler.specs.declared.call.Call.{Call}
 use Rattle.scheduler.specs.declared.scheduler.QoSScheduler.{QoSScheduler}
 use Rattle.scheduler.specs.declared.scheduler.Reply.{Reply}
@@ -14,7 +16,7 @@ use Rattle.scheduler.specs.Step.{step, run}
 use Rattle.scheduler.specs.Took.{Carries}
 use Rattle.scheduler.specs.Stretch.{Event, breaks, picks, stretch, ahead}
 use Rattle.scheduler.specs.Demand3.{Waiting}
-use Rattle.scheduler.specs.Scheduler.{abs, Valid, Meets}
+use Rattle.scheduler.specs.Scheduler.{abs, Valid, Meets, MeetsLent}
 
 -- one call, and what the code gave back
 pub record Made : Type 0 where
@@ -25,6 +27,22 @@ pub record Made : Type 0 where
 unfoldable pub History : QoSScheduler → List Made → Type 0
 History s [] = Unit
 History s (a ∷ rest) = Meets (a .call) s (a .reply) × History (a .reply .state) rest
+
+-- one call by value, or one on a lent state, with what it left behind the reference
+pub data Done : Type 0 where
+  byValue : Call → Reply → Done
+  onLent : Call → Answer → QoSScheduler → Done
+
+-- calls of both kinds, in whatever order: each keeps its own contract, at the scheduler that the one before returned or left
+unfoldable pub Mixed : QoSScheduler → List Done → Type 0
+Mixed s [] = Unit
+Mixed s (byValue call reply ∷ rest) = Meets call s reply × Mixed (reply .state) rest
+Mixed s (onLent call answer after ∷ rest) = MeetsLent call s answer after × Mixed after rest
+
+-- the call, and what came back, whichever kind it was
+unfoldable pub madeOf : Done → Made
+madeOf (byValue call reply) = record { call = call; reply = reply }
+madeOf (onLent call answer after) = record { call = call; reply = record { answer = answer; state = after } }
 
 -- the scheduler that a history leaves
 unfoldable pub left : QoSScheduler → List Made → QoSScheduler

@@ -7,6 +7,7 @@ use Rattle.records.specs.declared.error.SchedError.{SchedError}
 use Rattle.records.specs.declared.ids.SlotOption.{SlotOption}
 use Rattle.queue.specs.declared.BandQueue.{BandQueue}
 use Rattle.queue.specs.Stored.{entries, WellFormed}
+use Rattle.scheduler.specs.declared.answer.Answer.{Answer}
 use Rattle.scheduler.specs.declared.call.Call.{Call}
 use Rattle.scheduler.specs.declared.scheduler.QoSScheduler.{QoSScheduler}
 use Rattle.scheduler.specs.declared.scheduler.Reply.{Reply}
@@ -53,6 +54,10 @@ pub record Meets (call : Call) (s : QoSScheduler) (r : Reply) : Type 0 where
   pub valid : Valid (r .state)
   pub answer-is : r .answer ≡ step call (abs s) .answer
   pub state-is : abs (r .state) ≡ step call (abs s) .state
+
+-- the same of a call "on a lent scheduler state": `before` stands behind the reference at entry, `after` at exit
+abbrev pub MeetsLent : Call → QoSScheduler → Answer → QoSScheduler → Type 0
+MeetsLent call before answer after = Meets call before (record { answer = answer; state = after })
 
 -- ---- what the private parts promise
 

@@ -87,9 +87,9 @@ module _ {M : Type 1} (𝓤 : URA M) (H : Heap 𝓤) (A : Atoms 𝓤) (W : Given
     needs = λ w.
         qed W (‵ (S.the-row .own s (w ∷ [])) ∷ []) ∵ says ! valid $ nothing ! $ frame ! $
         nothing ! $ owned ! L.the-row (Is L.the-row) (LL.makes L.the-type L′.the-plain 𝓤 H A) slot _ slot-is $ fjoin ! $ move ! (1 ∷ 0 ∷ []) $ fjoin ! $ done !;
-    promise = ensured 𝓤 H A block-task.ended (block-task.clauses 𝓤 H A at-mem run) tt (s, (slot, tt)) tt;
+    Says = ensured 𝓤 H A block-task.ended (block-task.clauses 𝓤 H A at-mem run) tt (s, (slot, tt)) tt;
     gives = λ w v. id⊢ 𝓤 _;
-    says-so = λ r. exE 𝓤 _ (λ ws. snd∗ 𝓤 (sem 𝓤 H A (lasts block-task.ended tt (s, (slot, tt)) ws)) (fact 𝓤 (Meets (call.Block slot) s r)));
+    keeps = λ r. exE 𝓤 _ (λ ws. snd∗ 𝓤 (sem 𝓤 H A (lasts block-task.ended tt (s, (slot, tt)) ws)) (fact 𝓤 (Meets (call.Block slot) s r)));
   }
 
   exits : (r : Reply) (w : Val) → Is N.the-row (r .answer) (w ∷ []) → Meets (call.Block slot) s r

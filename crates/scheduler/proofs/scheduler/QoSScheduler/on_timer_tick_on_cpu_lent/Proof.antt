@@ -83,9 +83,9 @@ module _ {M : Type 1} (𝓤 : URA M) (H : Heap 𝓤) (A : Atoms 𝓤) (W : Given
     needs = λ w.
         qed W (‵ (S.the-row .own s (w ∷ [])) ∷ []) ∵ says ! valid $ nothing ! $ frame ! $
         nothing ! $ owned ! u32 (Is u32) (uint-makes 𝓤 H A W w32) elapsed _ (refl, elapsed-fits) $ fjoin ! $ owned ! usize (Is usize) (uint-makes 𝓤 H A W w64) core _ (refl, core-fits) $ fjoin ! $ move ! (1 ∷ 0 ∷ []) $ fjoin ! $ done !;
-    promise = ensured 𝓤 H A on-timer-tick-on-cpu.ended (on-timer-tick-on-cpu.clauses 𝓤 H A at-mem run) tt (s, (core, (elapsed, tt))) tt;
+    Says = ensured 𝓤 H A on-timer-tick-on-cpu.ended (on-timer-tick-on-cpu.clauses 𝓤 H A at-mem run) tt (s, (core, (elapsed, tt))) tt;
     gives = λ w v. id⊢ 𝓤 _;
-    says-so = λ r. exE 𝓤 _ (λ ws. snd∗ 𝓤 (sem 𝓤 H A (lasts on-timer-tick-on-cpu.ended tt (s, (core, (elapsed, tt))) ws)) (fact 𝓤 (Meets (call.Tick core elapsed) s r)));
+    keeps = λ r. exE 𝓤 _ (λ ws. snd∗ 𝓤 (sem 𝓤 H A (lasts on-timer-tick-on-cpu.ended tt (s, (core, (elapsed, tt))) ws)) (fact 𝓤 (Meets (call.Tick core elapsed) s r)));
   }
 
   exits : (r : Reply) (w : Val) → Is N.the-row (r .answer) (w ∷ []) → Meets (call.Tick core elapsed) s r
