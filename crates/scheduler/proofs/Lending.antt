@@ -70,7 +70,7 @@ module _ {M : Type 1} {𝓤 : URA M} {H : Heap 𝓤} {A : Atoms 𝓤} {K : Type 
       spotOf 𝓤 H E state ≡ (σ, b, zero) → spotOf 𝓤 H E lent ≡ (loanTy, l, zero) → spotOf 𝓤 H E answer ≡ (α, a, zero) →
       ((i j : Item 𝓤) → Opds K W (i ∷ j ∷ ‵ (fat fullShare loanTy l zero (vptr b zero)) ∷ ‵ (froom α a zero) ∷ Γ) E arguments vs) →
       ((r : Answer) (v : Val) (s′ : QoSScheduler) (w′ : Val) → Is N.the-row r (v ∷ []) → Is S.the-row s′ (w′ ∷ []) → MeetsLent asked s r s′ →
-        Seq K W (‵ (fat fullShare σ b zero w′) ∷ ‵ (fat fullShare loanTy l zero (vptr b zero)) ∷ ‵ (fat fullShare α a zero v) ∷ Γ) (runs C Λ E rest q)) →
+      Seq K W (‵ (fat fullShare σ b zero w′) ∷ ‵ (fat fullShare loanTy l zero (vptr b zero)) ∷ ‵ (fat fullShare α a zero v) ∷ Γ) (runs C Λ E rest q)) →
       Seq K W (‵ (fat fullShare σ b zero w) ∷ ‵ (froom loanTy l zero) ∷ ‵ (froom α a zero) ∷ Γ) (runs C Λ E (lendCode function arguments state lent answer rest) q)
   unfolding partOf
   lends t {α} {σ} α-is σ-is b l a {E} {C} {Λ} {q} {Γ} {function} {arguments} {state} {lent} {answer} {rest} {vs} s w {asked} {c} is m fm known state-at lent-at answer-at arguments-are goes-on =
@@ -82,11 +82,11 @@ module _ {M : Type 1} {𝓤 : URA M} {H : Heap 𝓤} {A : Atoms 𝓤} {K : Type 
       -- [the state lies there; the reference; room for the answer; …]
       lft-new t tt (λ ν. move t (1 ∷ []) $
       use1 W (later (some (λ (γ : GName). ‵ (MutRef (named 0) (ν ∷ []) S.the-row .own (referenceTo b s γ) (vptr b zero ∷ [])) ⊛ ‵ (flent (ν ∷ []) (Body (mem S.the-row) b zero γ)))))
-        (lends-ref 𝓤 H A W S.the-row (named 0) (ν ∷ []) s b zero) $ await t tt $ pick t (λ γ. split t $ move t (2 ∷ 0 ∷ []) $
+      (lends-ref 𝓤 H A W S.the-row (named 0) (ν ∷ []) s b zero) $ await t tt $ pick t (λ γ. split t $ move t (2 ∷ 0 ∷ []) $
       use2 W (raw (c .pre (m .ghost ν γ))) (m .needs ν γ) $
       calls-at t fm c known (m .ghost ν γ)
-        (subst (Opds K W (raw (c .pre (m .ghost ν γ)) ∷ ‵ (flent (ν ∷ []) (Body (mem S.the-row) b zero γ)) ∷ ‵ (fat fullShare loanTy l zero (vptr b zero)) ∷ ‵ (froom α a zero) ∷ Γ) E (copy (place lent []) ∷ arguments))
-          (sym (m .args-are ν γ)) (and-then t (load t (at-spot t lent-at (stop t)) (look t 2 refl)) (arguments-are _ _))) (λ v.
+      (subst (Opds K W (raw (c .pre (m .ghost ν γ)) ∷ ‵ (flent (ν ∷ []) (Body (mem S.the-row) b zero γ)) ∷ ‵ (fat fullShare loanTy l zero (vptr b zero)) ∷ ‵ (froom α a zero) ∷ Γ) E (copy (place lent []) ∷ arguments))
+      (sym (m .args-are ν γ)) (and-then t (load t (at-spot t lent-at (stop t)) (look t 2 refl)) (arguments-are _ _))) (λ v.
       use1 W (later (some (λ (r : Answer). ((‵ (flft (ν ∷ []) fullShare) ⊛ ‵ ftrue) ⊛ ‵ (N.the-row .own r (v ∷ []))) ⊛ raw (m .Says ν γ r)))) (m .gives ν γ v) $ await t tt $ pick t (λ r.
       split t $ move t (1 ∷ []) $ use1 W (some (λ (s′ : QoSScheduler). ‵ (fres γ (S.the-row .coded .code s′)) ⊛ raw (fact 𝓤 (MeetsLent asked s r s′)))) (m .keeps ν γ r) $ pick t (λ s′.
       split t $ move t (1 ∷ []) $ heard t (MeetsLent asked s r s′) (λ meets. move t (1 ∷ []) $ split t $ move t (1 ∷ []) $

@@ -59,7 +59,7 @@ module _ {M : Type 1} (𝓤 : URA M) (H : Heap 𝓤) (A : Atoms 𝓤) (W : Given
     gives = λ ν γ v. id⊢ 𝓤 _;
     keeps = λ ν γ r.
         qed W (some (λ (ends : QoSScheduler × (Unit {0} × Unit {0})).
-          ‵ (lasts block.ended (ν ∷ [], tt) (referenceTo b s γ, (slot, tt)) ends) ⊛ raw (fact 𝓤 (MeetsLent (call.Block slot) s r (ends .0)))) ∷ []) ∵
+        ‵ (lasts block.ended (ν ∷ [], tt) (referenceTo b s γ, (slot, tt)) ends) ⊛ raw (fact 𝓤 (MeetsLent (call.Block slot) s r (ends .0)))) ∷ []) ∵
         pick ! (λ ends. split ! $ fsplit ! $ keep ! (0 ∷ 2 ∷ []) $
         show ! (λ (s′ : QoSScheduler). sep 𝓤 (A .res γ (S.the-row .coded .code s′)) (fact 𝓤 (MeetsLent (call.Block slot) s r s′))) (ends .0) $ done !);
   }
@@ -78,7 +78,7 @@ module _ {M : Type 1} (𝓤 : URA M) (H : Heap 𝓤) (A : Atoms 𝓤) (W : Given
     gives = λ ν γ v. id⊢ 𝓤 _;
     keeps = λ ν γ r.
         qed W (some (λ (ends : QoSScheduler × (Unit {0} × (Unit {0} × Unit {0}))).
-          ‵ (lasts tick.ended (ν ∷ [], tt) (referenceTo b s γ, (core, (elapsed, tt))) ends) ⊛ raw (fact 𝓤 (MeetsLent (call.Tick core elapsed) s r (ends .0)))) ∷ []) ∵
+        ‵ (lasts tick.ended (ν ∷ [], tt) (referenceTo b s γ, (core, (elapsed, tt))) ends) ⊛ raw (fact 𝓤 (MeetsLent (call.Tick core elapsed) s r (ends .0)))) ∷ []) ∵
         pick ! (λ ends. split ! $ fsplit ! $ keep ! (0 ∷ 2 ∷ []) $
         show ! (λ (s′ : QoSScheduler). sep 𝓤 (A .res γ (S.the-row .coded .code s′)) (fact 𝓤 (MeetsLent (call.Tick core elapsed) s r s′))) (ends .0) $ done !);
   }

@@ -172,11 +172,11 @@ module _ {M : Type 1} {𝓤 : URA M} {H : Heap 𝓤} {A : Atoms 𝓤} {K : Type 
       rewrite t 1 (λ (us′ : List Val). ‵ (cellAt fullShare (S.the-row .mir) us′ (L .b) (L .o))) (before .only-it) refl $
       -- [what the state owns; its cell; the open borrow; obs; auth; the reference; room for the answer, the copy and the reply; …]
       assigns t (of-opd t (load t (from t (hop t (look t 5 refl) (stop t))) (look-raw t 1 {τ = τ .state} (cell-at w)))) (at-spot t state-at (stop t))
-        (init t 7 refl (state-typed 𝓤 H A W (right .state-is) s w (before .is))) $
+      (init t 7 refl (state-typed 𝓤 H A W (right .state-is) s w (before .is))) $
       use1 W (raw (c .pre (m .ghost w))) (m .needs w) $
       calls-at t fm c known (m .ghost w)
-        (subst (Opds K W (raw (c .pre (m .ghost w)) ∷ at-call 𝓤 τ L s w Γ) (locals 𝓤 H τ L more) (copy (place state []) ∷ arguments)) (sym (m .args-are w))
-          (and-then t (load t (at-spot t state-at (stop t)) (look t 7 refl)) (arguments-are (raw (c .pre (m .ghost w))) w))) (λ v.
+      (subst (Opds K W (raw (c .pre (m .ghost w)) ∷ at-call 𝓤 τ L s w Γ) (locals 𝓤 H τ L more) (copy (place state []) ∷ arguments)) (sym (m .args-are w))
+      (and-then t (load t (at-spot t state-at (stop t)) (look t 7 refl)) (arguments-are (raw (c .pre (m .ghost w))) w))) (λ v.
       use1 W (later (some (λ (r : Reply). (‵ ftrue ⊛ ‵ (R.the-row .own r (v ∷ []))) ⊛ raw (m .Says r)))) (m .gives w v) $ await t tt $ pick t (λ r.
       split t $ move t (1 ∷ []) $ use1 W (raw (fact 𝓤 (Meets asked s r))) (m .keeps r) $ heard t (Meets asked s r) (λ meets.
       split t $ drop t $ facts t R.the-row (Is R.the-row) (shows 𝓤 H A R.the-row) r (v ∷ []) (λ is.
@@ -188,9 +188,9 @@ module _ {M : Type 1} {𝓤 : URA M} {H : Heap 𝓤} {A : Atoms 𝓤} {K : Type 
       rewrite t 7 (λ (u : Val). ‵ (fat fullShare (τ .reply) (L .reply) zero u)) (after .whole-is) refl $
       rewrite t 7 (λ (σ : Ty). ‵ (fat fullShare σ (L .reply) zero (pair (after .answer) (after .state)))) (right .reply-is) refl $
       assigns t (of-opd t (load t (at-spot t reply-at (fld t (ap (λ (σ : Ty). fieldOf σ 1) (right .reply-is)) (stop t))) (look-in t 7 (sub t 1 refl (whole t)))))
-        (from t (hop t (look t 4 refl) (stop t))) (store-raw t 0 {τ = τ .state} (cell-at w) state-fits) $
+      (from t (hop t (look t 4 refl) (stop t))) (store-raw t 0 {τ = τ .state} (cell-at w) state-fits) $
       assigns t (of-opd t (load t (at-spot t reply-at (fld t (ap (λ (σ : Ty). fieldOf σ 0) (right .reply-is)) (stop t))) (look-in t 7 (sub t 0 refl (whole t)))))
-        (from t (stop t)) (init t 5 refl answer-fits) $
+      (from t (stop t)) (init t 5 refl answer-fits) $
       rewrite t 0 (λ (σ : Ty). ‵ (fat fullShare (rawTy σ) (L .b) (L .o) (after .state))) (right .state-is) refl $
       rewrite t 7 (λ (σ : Ty). ‵ (fat fullShare σ (L .reply) zero (pair (after .answer) (after .state)))) (sym (right .reply-is)) refl $
       owned t S.the-row (Is S.the-row) (LL.makes S.the-type S′.the-plain 𝓤 H A) (r .state) _ (after .state-is) $ move t (1 ∷ 0 ∷ []) $

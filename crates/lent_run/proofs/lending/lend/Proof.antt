@@ -118,8 +118,68 @@ module _ (α σ ρ λ′ : Ty) (l₀ l₁ l₂ l₃ l₄ l₅ l₆ l₇ l₈ l�
       let a₄ : OfTy σ v₄ = state-typed 𝓤 H A W σ-is after v₄ is₄ in
       assigns t (of-opd t (load t (from t (stop t)) (look t 0 refl))) (from t (stop t)) (init t 10 refl a₄) $
       assigns t (agg t (and-then t (load t (from t (stop t)) (look t 4 refl)) (and-then t (load t (from t (stop t)) (look t 9 refl)) (and-then t (load t (from t (stop t)) (look t 2 refl)) (and-then t (load t (from t (stop t)) (look t 10 refl)) (no-more t))))))
-        (from t (stop t)) (init t 11 refl (subst (λ (τ : Ty). OfTy τ (four v₁ v₂ v₃ v₄)) (sym ρ-is)
-        (yes-and (hasTy α v₁) _ (a₁ .0) (yes-and (hasTy σ v₂) _ (a₂ .0) (yes-and (hasTy α v₃) _ (a₃ .0) (yes-and (hasTy σ v₄) _ (a₄ .0) tt))), (a₁ .1, (a₂ .1, (a₃ .1, (a₄ .1, tt))))))) $
+      (from t (stop t)) (init t 11 refl (subst (λ (τ : Ty). OfTy τ (four v₁ v₂ v₃ v₄)) (sym ρ-is)
+      (yes-and (hasTy α v₁) _ (a₁ .0) (yes-and (hasTy σ v₂) _ (a₂ .0) (yes-and (hasTy α v₃) _ (a₃ .0) (yes-and (hasTy σ v₄) _ (a₄ .0) tt))), (a₁ .1, (a₂ .1, (a₃ .1, (a₄ .1, tt))))))) $
       returns t (look t 11 refl) $ forget t 0 refl $ forget t 1 refl $ forget t 2 refl $ forget t 3 refl $ forget t 4 refl $ forget t 5 refl $ forget t 6 refl $ forget t 7 refl $ forget t 8 refl $ forget t 9 refl $ forget t 10 refl $ forget t 11 refl $
       ends (record { blocked = blocked; between = between; ticked = ticked; after = after }) (four v₁ v₂ v₃ v₄)
-        ((v₁ ∷ [], (v₂ ∷ [], (v₃ ∷ [], (v₄ ∷ [], tt)))), (refl, (is₁, (is₂, (is₃, (is₄, tt)))))) (first, second)))
+      ((v₁ ∷ [], (v₂ ∷ [], (v₃ ∷ [], (v₄ ∷ [], tt)))), (refl, (is₁, (is₂, (is₃, (is₄, tt)))))) (first, second)))
+
+abbrev stayed : Stays (lend.ended .signature .params) (lend.ended .kept)
+stayed = (stay-none (λ _. S.the-row) yes, (stay-none (λ _. L.the-row) yes, (stay-none (λ _. usize) yes, (stay-none (λ _. u32) yes, tt))))
+
+module _ {M : Type 1} (𝓤 : URA M) (H : Heap 𝓤) (A : Atoms 𝓤) (W : Given 𝓤 H A) (mem : Memory → SProp 𝓤) (run : Routine → Fun 𝓤)
+    (s : QoSScheduler) (w : Val) (is : Is S.the-row s (w ∷ [])) (slot : Slot) (slot-is : Is L.the-row slot (slotVals slot)) (core elapsed : ℕ) (core-fits : core < 2 ^ 64) (elapsed-fits : elapsed < 2 ^ 32) where
+  abbrev x : QoSScheduler × (Slot × (ℕ × (ℕ × Unit {0})))
+  x = (s, (slot, (core, (elapsed, tt))))
+
+  abbrev at : List Val × (List Val × (List Val × (List Val × Unit {0})))
+  at = (w ∷ [], (slotVals slot, (vint w64 core ∷ [], (vint w32 elapsed ∷ [], tt))))
+
+  abbrev Post : Val → SProp 𝓤
+  Post = walkOf 𝓤 H A lend.ended stayed (lend.clauses 𝓤 H A mem run) .post ((tt, tt, tt, x, at), tt)
+
+  exits : (r : Result) (v : Val) → Is T.the-row r (v ∷ []) → Both slot core elapsed s r → ent 𝓤 (sem 𝓤 H A ftrue) (Post v)
+  exits r v made both =
+      qed W (‵ ftrue ∷ []) ∵
+      suffices ! _ (ends-at 𝓤 H A lend.ended stayed (lend.clauses 𝓤 H A mem run) W ((tt, tt, tt, x, at), tt) v r (tt, (tt, (tt, (tt, tt)))) (tt, (tt, (tt, (tt, tt))))) $ says ! both $
+      owned ! T.the-row (Is T.the-row) (LL.makes T.the-type T′.the-plain 𝓤 H A) r (v ∷ []) made $ nothing ! $
+      owned ! u32 (Is u32) (uint-makes 𝓤 H A W w32) elapsed _ (refl, elapsed-fits) $ fjoin ! $ owned ! usize (Is usize) (uint-makes 𝓤 H A W w64) core _ (refl, core-fits) $ fjoin ! $
+      owned ! L.the-row (Is L.the-row) (LL.makes L.the-type L′.the-plain 𝓤 H A) slot _ slot-is $ fjoin ! $ owned ! S.the-row (Is S.the-row) (LL.makes S.the-type S′.the-plain 𝓤 H A) s _ is $ fjoin ! $
+      move ! (2 ∷ 0 ∷ 1 ∷ []) $ done !
+
+  module _ (C : Calls 𝓤 H) (Λ : Loops 𝓤 H) (fm : FmC 𝓤 H (W .laws) C) (known-block : Triple 𝓤 (C #block) (Block 𝓤 H A mem run)) (known-tick : Triple 𝓤 (C #tick) (Tick 𝓤 H A mem run)) where
+    walk : Valid s → ent 𝓤 (onEntry 𝓤 H A lend.signature tt tt x at) (WpFn 𝓤 H C Λ code.function (w ∷ LL.val L.the-type L′.the-laws slot ∷ vint w64 core ∷ vint w32 elapsed ∷ []) Post)
+    walk valid =
+        qed W (‵ ftrue ∷ ‵ (owns (S.the-row ∷ L.the-row ∷ usize ∷ u32 ∷ []) x at) ∷ []) ∵ enter ! C Λ code.function (w ∷ LL.val L.the-type L′.the-laws slot ∷ vint w64 core ∷ vint w32 elapsed ∷ []) _ $
+        alloc1 ! (λ l₀. alloc1 ! (λ l₁. alloc1 ! (λ l₂. alloc1 ! (λ l₃. alloc1 ! (λ l₄. alloc1 ! (λ l₅. alloc1 ! (λ l₆. alloc1 ! (λ l₇. alloc1 ! (λ l₈. alloc1 ! (λ l₉. alloc1 ! (λ l₁₀. alloc1 ! (λ l₁₁. alloc0 ! $
+        params1 ! $ pass1 ! (init ! 20 refl (LL.lawful S.the-type S′.the-laws 𝓤 H A W .typed s _ is .0)) $ pass1 ! (init ! 18 refl (LL.lawful L.the-type L′.the-laws 𝓤 H A W .typed slot _ slot-is .0)) $
+        pass1 ! (init ! 16 refl (tt, record { fits = core-fits })) $ pass1 ! (init ! 14 refl (tt, record { fits = elapsed-fits })) $ pass0 ! $
+        move ! (12 ∷ 4 ∷ 10 ∷ 20 ∷ 18 ∷ 16 ∷ 14 ∷ 8 ∷ 6 ∷ 2 ∷ 0 ∷ 22 ∷ []) $
+        runs-so _ _ _ _ l₀ l₁ l₂ l₃ l₄ l₅ l₆ l₇ l₈ l₉ l₁₀ l₁₁ ! refl refl refl mem run s w slot core elapsed is slot-is core-fits elapsed-fits valid fm known-block known-tick (λ r v made both.
+        move ! (11 ∷ 23 ∷ []) $ free1 ! $ move ! (5 ∷ 21 ∷ []) $ free1 ! $ move ! (5 ∷ 19 ∷ []) $ free1 ! $ move ! (5 ∷ 17 ∷ []) $ free1 ! $ move ! (5 ∷ 15 ∷ []) $ free1 ! $ move ! (0 ∷ 13 ∷ []) $ free1 ! $
+        move ! (3 ∷ 11 ∷ []) $ free1 ! $ move ! (3 ∷ 9 ∷ []) $ free1 ! $ move ! (1 ∷ 7 ∷ []) $ free1 ! $ move ! (1 ∷ 5 ∷ []) $ free1 ! $ move ! (0 ∷ 3 ∷ []) $ free1 ! $ move ! (0 ∷ 1 ∷ []) $ free1 ! $ free0 ! $
+        keep ! (0 ∷ []) $ by ! (exits r v made both))))))))))))))
+
+module _ {M : Type 1} (𝓤 : URA M) (H : Heap 𝓤) (A : Atoms 𝓤) (W : Given 𝓤 H A) (mem : Memory → SProp 𝓤) (run : Routine → Fun 𝓤) where
+  lend-walks : (C : Calls 𝓤 H) (Λ : Loops 𝓤 H) → FmC 𝓤 H (W .laws) C → Triple 𝓤 (C #block) (Block 𝓤 H A mem run) → Triple 𝓤 (C #tick) (Tick 𝓤 H A mem run) →
+      Walks 𝓤 H A lend.ended stayed (WpFn 𝓤 H C Λ code.function) (lend.clauses 𝓤 H A mem run)
+  lend-walks C Λ fm known-block known-tick = walked 𝓤 H A lend.ended stayed (lend.clauses 𝓤 H A mem run) (WpFn 𝓤 H C Λ code.function)
+      (λ κs. (LL.vals S.the-type S′.the-laws, (slotVals, (uint-vals w64, (uint-vals w32, tt))))) (λ κs. (LL.tells S.the-type S′.the-laws, (LL.tells L.the-type L′.the-laws, (uint-tells w64, (uint-tells w32, tt)))))
+      (λ κs qs bounds a g are. needs 𝓤 (Valid (a .0)) _
+      (walk 𝓤 H A W mem run (a .0) _ (are .0) (a .1 .0) (are .1 .0) (a .1 .1 .0) (a .1 .1 .1 .0) (are .1 .1 .0 .1) (are .1 .1 .1 .0 .1) C Λ fm known-block known-tick))
+
+lend-meets : {M : Type 1} (𝓤 : URA M) (H : Heap 𝓤) (A : Atoms 𝓤) → Given 𝓤 H A → (mem : Memory → SProp 𝓤) (run : Routine → Fun 𝓤) (𝓣 : Tables 𝓤 H) →
+    Triple 𝓤 (𝓣 .C #block) (Block 𝓤 H A mem run) → Triple 𝓤 (𝓣 .C #tick) (Tick 𝓤 H A mem run) →
+    Meets 𝓤 H A lend.signature (WpFn 𝓤 H (𝓣 .C) (𝓣 .Λ) code.function) (lend.spec 𝓤 H A mem run)
+lend-meets 𝓤 H A W mem run 𝓣 known-block known-tick =
+    walk-meets 𝓤 H A lend.ended stayed W (goes-none 𝓤 H A W 0 (λ _. S.the-row) yes (λ κs x f. refl), (goes-none 𝓤 H A W 0 (λ _. L.the-row) yes (λ κs x f. refl), (goes-none 𝓤 H A W 0 (λ _. usize) yes (λ κs x f. refl), (goes-none 𝓤 H A W 0 (λ _. u32) yes (λ κs x f. refl), tt)))) (lend.clauses 𝓤 H A mem run)
+    (WpFn 𝓤 H (𝓣 .C) (𝓣 .Λ) code.function) (WpFn-mono 𝓤 H (W .laws) 𝓣 code.function) (lend-walks 𝓤 H A W mem run (𝓣 .C) (𝓣 .Λ) (fmOf 𝓤 H (W .laws) 𝓣) known-block known-tick)
+
+pub lend-spec : {M : Type 1} → stated.statement M
+unfolding code.routine tablesOf
+lend-spec 𝓤 H 𝓜 𝓖 𝓡 =
+    entered 𝓤 H (tripleOf 𝓤 H (𝓖 .A) lend.signature (lend.spec 𝓤 H (𝓖 .A) (𝓜 .mem) (𝓡 .run)))
+    (tables 𝓤 H 𝓜 𝓡 code.env .C) (tables 𝓤 H 𝓜 𝓡 code.env .Λ) #lend code.function (code.unfolded 𝓤 H 𝓜 𝓡)
+    (lend-meets 𝓤 H (𝓖 .A) (givenOf 𝓤 H 𝓜 𝓖) (𝓜 .mem) (𝓡 .run) (tablesOf 𝓤 H 𝓜 (tables 𝓤 H 𝓜 𝓡 code.env))
+    (cited 𝓤 H (Block 𝓤 H (𝓖 .A) (𝓜 .mem) (𝓡 .run)) 𝓜 𝓡 code.env #block block-def.routine code.calls-scheduler·scheduler·QoSScheduler·block-task-lent (block-thm.met 𝓤 H 𝓜 𝓖 𝓡))
+    (cited 𝓤 H (Tick 𝓤 H (𝓖 .A) (𝓜 .mem) (𝓡 .run)) 𝓜 𝓡 code.env #tick tick-def.routine code.calls-scheduler·scheduler·QoSScheduler·on-timer-tick-on-cpu-lent (tick-thm.met 𝓤 H 𝓜 𝓖 𝓡)))
