@@ -1,12 +1,12 @@
 -- Demand 3, whole: every history from a new scheduler, or from one that was read from an accepted image, is as `CodeClaim` says. Assumes nothing.
 use mathlib.Core.Path.{_≡_, refl, sym, subst, _∙_}
-use mathlib.Core.List.{List}
+use mathlib.Core.List.{List, map}
 use Prim.Native.Nat.{ℕ}
 use Rattle.scheduler.specs.declared.scheduler.QoSScheduler.{QoSScheduler}
-use Rattle.scheduler.specs.History.{CodeClaim}
+use Rattle.scheduler.specs.History.{Done, Mixed, madeOf, CodeClaim}
 use Rattle.scheduler.specs.Scheduler.{abs, Valid}
 use Rattle.scheduler.specs.State.{State}
-use Rattle.scheduler.proofs.Histories.{code-demand3, stored}
+use Rattle.scheduler.proofs.Histories.{mixed-history, code-demand3, stored}
 use Rattle.frames.specs.declared.read.ImageRead.{ImageRead}
 use Rattle.frames.specs.declared.read.ImageStatus.{ImageStatus}
 use Rattle.frames.specs.declared.read.ImageStatus.the-variants as read
@@ -59,3 +59,7 @@ pub demand3 : Demand3
 demand3 s start made h =
     let is : ReadAs (startState start) s = start-as start in
     subst (λ (t : State). CodeClaim t s made) (is .state-is) (code-demand3 s (is .valid) made h)
+
+-- the same where some of the calls were on a lent state
+pub lent-demand3 : (s : QoSScheduler) (start : Start s) (done : List Done) → Mixed s done → CodeClaim (startState start) s (map madeOf done)
+lent-demand3 s start done h = demand3 s start (map madeOf done) (mixed-history s done h)

@@ -115,10 +115,6 @@ code-demand3 s v made h past next cut =
     let parts : History s past × History (left s past) next = history-cut s past next (subst (History s) (sym cut) h) in
     code-point s v past next (parts .0) (parts .1)
 
--- the same where some of the calls were on a lent state
-pub mixed-demand3 : (s : QoSScheduler) → Valid s → (done : List Done) → Mixed s done → CodeClaim (abs s) s (map madeOf done)
-mixed-demand3 s v done h = code-demand3 s v (map madeOf done) (mixed-history s done h)
-
 -- X's stretch in a history is as long as can be
 pub stretchIn-longest : (x : ℕ) (s : QoSScheduler) (next : List Made) → Longest (breaks x) (picks x) (happened s next) (stretchIn x s next)
 stretchIn-longest x s next = longest (breaks x) (picks x) (happened s next)

@@ -9,10 +9,11 @@
 --
 -- and what the code's contracts promise together:
 --
---   Histories   demands 2 and 3 on the code
+--   Histories   demands 2 and 3 on the code, calls on a lent state among them
 --
--- and what any crate may use of tests and of the stored scheduler: Says pairs each test with the fact that it tests, Stored reads the
--- scheduler's arrays as the state that they hold.
+-- and what any crate may use: Says pairs each test with the fact that it tests, Stored reads the scheduler's arrays as the state that they hold;
+-- for a caller that lends a state from a local, which has to be walked by hand, Lending is one such call, Loans are block and tick as it meets
+-- them, and MachineValues has what there is to know of a state's machine value.
 --
 -- How the rules' laws are shown: Lists and Parts are about lists and stores, Invariant is acceptance as the proofs
 -- carry it, Moves are the changes that calls are made of, Effects what each call does, Course every call followed once, Turns one call as X
@@ -20,7 +21,8 @@
 --
 -- How the code is shown to follow the rules: Searches, Seeking and Removals about the loops,
 -- Holders about a core's holder; Promises makes a contract of what a method did; OnSlots, OnCores, OnTicks and OnPlans have a law for each way out
--- of the methods, and Answers for each way out of the queries and the private parts. The functions' own proofs cite these.
+-- of the methods, Answers for each way out of the queries and the private parts, and OnLent walks the functions on a lent state. The functions'
+-- own proofs cite these.
 pub mod KCases
 pub mod Accepts
 pub mod Calls

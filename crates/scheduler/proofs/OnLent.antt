@@ -14,23 +14,25 @@ use mir.Facts.{yes-and}
 use mir.Raw.{raw as rawTy}
 use mir.Syntax.{Name, Ty, tyRef, tyStruct, named, mut, tnil, tcons, deref, field, Step as PStep, place, Opd as Operand, copy, rvOpd, Body as Code, seq, assign, call, return}
 use mir.Val.{Val, WT, hasTy, vptr, vstruct, vnil, vcons}
-use base.Logic.{SProp, ent}
-use base.Fml.{Lft, Share, GName, ftrue, fat, froom, flft, fobs, fbor, fobor, fauth}
+use base.Logic.{SProp, ent, sep, emp}
+use base.Fml.{Fml, Lft, Share, GName, ftrue, fsep, fat, froom, flft, fobs, fbor, fobor, fauth}
 use prog.Memory.{fieldOf}
 use prog.Wp.{Heap, Calls, Loops, Env, Spot, spotOf}
 use ghost.Atoms.{Atoms, sem}
 use contract.Monad.{fact}
-use types.Kit.{Given, Item, ‵, raw, mean, _⊛_, some, later, Seq, runs, frees, prop, atRet, _$_, move, drop, use1, split, pick, rewrite, await}
+use types.Kit.{Given, Item, ‵, raw, mean, ⋆, _⊛_, some, later, Seq, runs, frees, prop, atRet, _$_, _∵_, !, qed, move, drop, use0, use1, split, join, pick, rewrite, fjoin, fjoin3, feqI, frame, await, done}
 use types.Run.{Walks, Finds, Opds, look, look-raw, init, store-raw, forget, stop, hop, fld, from, load, of-opd, and-then, assigns, land, returns}
 use types.Part.{whole, sub, look-in}
 use types.SemTy.{Body}
 use sound.WpLaws.{FmC}
 use denote.Memory.{mem, cellAt, pointee}
 use denote.Laws.{Is, shows}
-use denote.Steps.{only, opens, closes, owned, peeks, facts, heard}
+use denote.Ref.{MutRef}
+use denote.Steps.{only, opens, closes, owned, peeks, facts, heard, nothing}
 use denote.Struct.Laws as LL
 use denote.Triple.Statement.{Contract, Triple}
 use denote.Triple.Call.{calls-at}
+use denote.Triple.Walked.{says}
 use Rattle.scheduler.specs.declared.answer.Answer.{Answer}
 use Rattle.scheduler.specs.declared.call.Call.{Call}
 use Rattle.scheduler.specs.declared.scheduler.QoSScheduler.{QoSScheduler}
@@ -98,46 +100,49 @@ lentCode τ method arguments reply state =
     (seq (assign (place 1 (deref (τ .state) ∷ [])) (rvOpd (copy (place reply (field 1 ∷ [])))))
     (seq (assign (place 0 []) (rvOpd (copy (place reply (field 0 ∷ []))))) return)))
 
--- the borrow (its lifetime, the share of the token, where the state lies, its ghost name), and where the locals lie
-pub record Lent : Type 0 where
+-- the borrow: its lifetime, the share of the token, where the state lies, and its ghost name
+pub record Borrow : Type 0 where
   pub κ : Lft
   pub q : Share
   pub b : ℕ
   pub o : ℕ
   pub γ : GName
+
+-- where the locals lie
+pub record Blocks : Type 0 where
   pub answer : ℕ
   pub lent : ℕ
   pub reply : ℕ
   pub state : ℕ
 
-abbrev locals : {M : Type 1} (𝓤 : URA M) (H : Heap 𝓤) → Types → Lent → Env 𝓤 H → Env 𝓤 H
+abbrev locals : {M : Type 1} (𝓤 : URA M) (H : Heap 𝓤) → Types → Blocks → Env 𝓤 H → Env 𝓤 H
 locals 𝓤 H τ L more = (τ .answer, L .answer) ∷ (lentTy, L .lent) ∷ more
 
-module _ {M : Type 1} (𝓤 : URA M) (τ : Types) (L : Lent) where
-  -- the borrow, shut at a state; and open, at a state with its machine value
-  abbrev shut : QoSScheduler → List (Item 𝓤) → List (Item 𝓤)
-  shut s Γ = ‵ (fobs (L .γ) (S.the-row .coded .code s)) ∷ ‵ (fbor (L .κ) (Body (mem S.the-row) (L .b) (L .o) (L .γ))) ∷ ‵ (flft (L .κ) (L .q)) ∷ Γ
+-- the borrow, shut at a state; and open, at a state with its machine value
+abbrev pub shut : {M : Type 1} (𝓤 : URA M) → Borrow → QoSScheduler → List (Item 𝓤) → List (Item 𝓤)
+shut 𝓤 B s Γ = ‵ (fobs (B .γ) (S.the-row .coded .code s)) ∷ ‵ (fbor (B .κ) (Body (mem S.the-row) (B .b) (B .o) (B .γ))) ∷ ‵ (flft (B .κ) (B .q)) ∷ Γ
 
+module _ {M : Type 1} (𝓤 : URA M) (τ : Types) (B : Borrow) (L : Blocks) where
   abbrev ajar : QoSScheduler → Val → List (Item 𝓤) → List (Item 𝓤)
   ajar s w Γ =
-      ‵ (cellAt fullShare (S.the-row .mir) (w ∷ []) (L .b) (L .o)) ∷ ‵ (fobor (L .κ) (L .q) (Body (mem S.the-row) (L .b) (L .o) (L .γ))) ∷
-      ‵ (fobs (L .γ) (S.the-row .coded .code s)) ∷ ‵ (fauth (L .γ) (S.the-row .coded .code s)) ∷ Γ
+      ‵ (cellAt fullShare (S.the-row .mir) (w ∷ []) (B .b) (B .o)) ∷ ‵ (fobor (B .κ) (B .q) (Body (mem S.the-row) (B .b) (B .o) (B .γ))) ∷
+      ‵ (fobs (B .γ) (S.the-row .coded .code s)) ∷ ‵ (fauth (B .γ) (S.the-row .coded .code s)) ∷ Γ
 
   -- the locals, whatever is in the reference's and the copy's
   abbrev rooms : Item 𝓤 → Item 𝓤 → List (Item 𝓤) → List (Item 𝓤)
   rooms lent state Γ = lent ∷ ‵ (froom (τ .answer) (L .answer) zero) ∷ state ∷ ‵ (froom (τ .reply) (L .reply) zero) ∷ Γ
 
   abbrev reference : Item 𝓤
-  reference = ‵ (fat fullShare lentTy (L .lent) zero (vptr (L .b) (L .o)))
+  reference = ‵ (fat fullShare lentTy (L .lent) zero (vptr (B .b) (B .o)))
 
   abbrev at-entry : QoSScheduler → List (Item 𝓤) → List (Item 𝓤)
-  at-entry s Γ = shut s (rooms reference (‵ (froom (τ .state) (L .state) zero)) Γ)
+  at-entry s Γ = shut 𝓤 B s (rooms reference (‵ (froom (τ .state) (L .state) zero)) Γ)
 
   abbrev at-call : QoSScheduler → Val → List (Item 𝓤) → List (Item 𝓤)
   at-call s w Γ = ajar s w (rooms reference (‵ (fat fullShare (τ .state) (L .state) zero w)) Γ)
 
   abbrev at-exit : QoSScheduler → List (Item 𝓤) → List (Item 𝓤)
-  at-exit s Γ = shut s (rooms (‵ (froom lentTy (L .lent) zero)) (‵ (froom (τ .state) (L .state) zero)) Γ)
+  at-exit s Γ = shut 𝓤 B s (rooms (‵ (froom lentTy (L .lent) zero)) (‵ (froom (τ .state) (L .state) zero)) Γ)
 
 -- ---- the method that is called
 
@@ -152,30 +157,41 @@ pub record Method {M : Type 1} (𝓤 : URA M) (H : Heap 𝓤) (A : Atoms 𝓤) (
   pub gives : (w v : Val) → ent 𝓤 (c .post (ghost w) v) (mean 𝓤 H A (later (some (λ (r : Reply). (‵ ftrue ⊛ ‵ (R.the-row .own r (v ∷ []))) ⊛ raw (Says r)))))
   pub keeps : (r : Reply) → ent 𝓤 (Says r) (fact 𝓤 (Meets asked s r))
 
+-- ---- what the method is asked for, and what is left at exit; Rest is what the other arguments own
+module _ {M : Type 1} (𝓤 : URA M) (H : Heap 𝓤) (A : Atoms 𝓤) (W : Given 𝓤 H A) (Rest : Fml) (rest : ent 𝓤 (emp 𝓤) (sem 𝓤 H A Rest)) where
+  pub asks : {φ : Type 0} → φ → (s : QoSScheduler) (w : Val) → ent 𝓤 (sem 𝓤 H A (S.the-row .own s (w ∷ []))) (sep 𝓤 (sep 𝓤 (emp 𝓤) (sem 𝓤 H A (fsep (S.the-row .own s (w ∷ [])) Rest))) (fact 𝓤 φ))
+  asks holds s w = qed W (‵ (S.the-row .own s (w ∷ [])) ∷ []) ∵ says ! holds $ nothing ! $ frame ! $ use0 W (‵ Rest) rest $ move ! (1 ∷ 0 ∷ []) $ fjoin ! $ done !
+
+  pub leaves : {φ : Type 0} → φ → (B : Borrow) (s : QoSScheduler) (a : Answer) (v : Val) → Is N.the-row a (v ∷ []) → ent 𝓤 (⋆ 𝓤 H A (shut 𝓤 B s []))
+      (sep 𝓤 (sep 𝓤 (sep 𝓤 (A .lft (B .κ) (B .q)) (emp 𝓤)) (sep 𝓤 (sem 𝓤 H A (fsep (MutRef (named 0) (B .κ) S.the-row .own (record { ptr = (B .b, B .o); name = B .γ; now = s }) (vptr (B .b) (B .o) ∷ [])) Rest)) (sem 𝓤 H A (N.the-row .own a (v ∷ []))))) (fact 𝓤 φ))
+  leaves holds B s a v is =
+      qed W (shut 𝓤 B s []) ∵ says ! holds $ nothing ! $ move ! (3 ∷ 0 ∷ []) $ join ! $ frame ! $ feqI ! (List Val) (vptr (B .b) (B .o) ∷ []) (vptr (B .b) (B .o) ∷ []) refl $ fjoin3 ! $
+      use0 W (‵ Rest) rest $ move ! (1 ∷ 0 ∷ []) $ fjoin ! $ owned ! N.the-row (Is N.the-row) (LL.makes N.the-type N′.the-plain 𝓤 H A) a _ is $ move ! (1 ∷ 0 ∷ []) $ done !
+
 -- ---- the walk
 
 module _ {M : Type 1} {𝓤 : URA M} {H : Heap 𝓤} {A : Atoms 𝓤} {K : Type 0} {W : Given 𝓤 H A} where
-  pub lent-call : K → (τ : Types) → Right τ → (L : Lent) {more : Env 𝓤 H} {C : Calls 𝓤 H} {Λ : Loops 𝓤 H} {Kf : Val → SProp 𝓤} {Γ : List (Item 𝓤)}
+  pub lent-call : K → (τ : Types) → Right τ → (B : Borrow) (L : Blocks) {more : Env 𝓤 H} {C : Calls 𝓤 H} {Λ : Loops 𝓤 H} {Kf : Val → SProp 𝓤} {Γ : List (Item 𝓤)}
       {method : Name} {arguments : List Operand} {reply state : ℕ} {vs : List Val} (s : QoSScheduler) {asked : Call} {c : Contract 𝓤} →
       Method 𝓤 H A s asked c vs → FmC 𝓤 H (W .laws) C → Triple 𝓤 (C method) c →
       -- the locals for the reply and for the copy lie there; and so do the other arguments
       spotOf 𝓤 H (locals 𝓤 H τ L more) reply ≡ (τ .reply, L .reply, zero) → spotOf 𝓤 H (locals 𝓤 H τ L more) state ≡ (τ .state, L .state, zero) →
-      ((i : Item 𝓤) (w : Val) → Opds K W (i ∷ at-call 𝓤 τ L s w Γ) (locals 𝓤 H τ L more) arguments vs) →
+      ((i : Item 𝓤) (w : Val) → Opds K W (i ∷ at-call 𝓤 τ B L s w Γ) (locals 𝓤 H τ L more) arguments vs) →
       -- whatever reply keeps the contract, the function may return its answer and leave its state
-      ((r : Reply) (a : Val) → Is N.the-row (r .answer) (a ∷ []) → Meets asked s r → Seq K W (at-exit 𝓤 τ L (r .state) Γ) (frees (locals 𝓤 H τ L more) (prop (Kf a)))) →
-      Seq K W (at-entry 𝓤 τ L s Γ) (runs C Λ (locals 𝓤 H τ L more) (lentCode τ method arguments reply state) (atRet (locals 𝓤 H τ L more) Kf))
-  lent-call t τ right L {more} {C} {Λ} {Kf} {Γ} {method} {arguments} {reply} {state} {vs} s {asked} {c} m fm known reply-at state-at arguments-are ends =
-      opens t tt S.the-row {h = s} (L .b) (L .o) (λ us. move t (1 ∷ []) $ peeks t S.the-row (Is S.the-row) (shows 𝓤 H A S.the-row) s us (λ was.
+      ((r : Reply) (a : Val) → Is N.the-row (r .answer) (a ∷ []) → Meets asked s r → Seq K W (at-exit 𝓤 τ B L (r .state) Γ) (frees (locals 𝓤 H τ L more) (prop (Kf a)))) →
+      Seq K W (at-entry 𝓤 τ B L s Γ) (runs C Λ (locals 𝓤 H τ L more) (lentCode τ method arguments reply state) (atRet (locals 𝓤 H τ L more) Kf))
+  lent-call t τ right B L {more} {C} {Λ} {Kf} {Γ} {method} {arguments} {reply} {state} {vs} s {asked} {c} m fm known reply-at state-at arguments-are ends =
+      opens t tt S.the-row {h = s} (B .b) (B .o) (λ us. move t (1 ∷ []) $ peeks t S.the-row (Is S.the-row) (shows 𝓤 H A S.the-row) s us (λ was.
       let before : OneValue s us = one-value s us was in
       let w : Val = before .it in
       rewrite t 0 (λ (us′ : List Val). ‵ (S.the-row .own s us′)) (before .only-it) refl $
-      rewrite t 1 (λ (us′ : List Val). ‵ (cellAt fullShare (S.the-row .mir) us′ (L .b) (L .o))) (before .only-it) refl $
+      rewrite t 1 (λ (us′ : List Val). ‵ (cellAt fullShare (S.the-row .mir) us′ (B .b) (B .o))) (before .only-it) refl $
       -- [what the state owns; its cell; the open borrow; obs; auth; the reference; room for the answer, the copy and the reply; …]
       assigns t (of-opd t (load t (from t (hop t (look t 5 refl) (stop t))) (look-raw t 1 {τ = τ .state} (cell-at w)))) (at-spot t state-at (stop t))
       (init t 7 refl (state-typed 𝓤 H A W (right .state-is) s w (before .is))) $
       use1 W (raw (c .pre (m .ghost w))) (m .needs w) $
       calls-at t fm c known (m .ghost w)
-      (subst (Opds K W (raw (c .pre (m .ghost w)) ∷ at-call 𝓤 τ L s w Γ) (locals 𝓤 H τ L more) (copy (place state []) ∷ arguments)) (sym (m .args-are w))
+      (subst (Opds K W (raw (c .pre (m .ghost w)) ∷ at-call 𝓤 τ B L s w Γ) (locals 𝓤 H τ L more) (copy (place state []) ∷ arguments)) (sym (m .args-are w))
       (and-then t (load t (at-spot t state-at (stop t)) (look t 7 refl)) (arguments-are (raw (c .pre (m .ghost w))) w))) (λ v.
       use1 W (later (some (λ (r : Reply). (‵ ftrue ⊛ ‵ (R.the-row .own r (v ∷ []))) ⊛ raw (m .Says r)))) (m .gives w v) $ await t tt $ pick t (λ r.
       split t $ move t (1 ∷ []) $ use1 W (raw (fact 𝓤 (Meets asked s r))) (m .keeps r) $ heard t (Meets asked s r) (λ meets.
@@ -191,13 +207,13 @@ module _ {M : Type 1} {𝓤 : URA M} {H : Heap 𝓤} {A : Atoms 𝓤} {K : Type 
       (from t (hop t (look t 4 refl) (stop t))) (store-raw t 0 {τ = τ .state} (cell-at w) state-fits) $
       assigns t (of-opd t (load t (at-spot t reply-at (fld t (ap (λ (σ : Ty). fieldOf σ 0) (right .reply-is)) (stop t))) (look-in t 7 (sub t 0 refl (whole t)))))
       (from t (stop t)) (init t 5 refl answer-fits) $
-      rewrite t 0 (λ (σ : Ty). ‵ (fat fullShare (rawTy σ) (L .b) (L .o) (after .state))) (right .state-is) refl $
+      rewrite t 0 (λ (σ : Ty). ‵ (fat fullShare (rawTy σ) (B .b) (B .o) (after .state))) (right .state-is) refl $
       rewrite t 7 (λ (σ : Ty). ‵ (fat fullShare σ (L .reply) zero (pair (after .answer) (after .state)))) (sym (right .reply-is)) refl $
       owned t S.the-row (Is S.the-row) (LL.makes S.the-type S′.the-plain 𝓤 H A) (r .state) _ (after .state-is) $ move t (1 ∷ 0 ∷ []) $
-      closes t tt S.the-row (r .state) (after .state ∷ []) (L .b) (L .o) $
+      closes t tt S.the-row (r .state) (after .state ∷ []) (B .b) (B .o) $
       returns t (look t 4 refl) $ forget t 3 refl $ forget t 4 refl $ forget t 5 refl $ forget t 6 refl $
       ends r (after .answer) (after .answer-is) meets))))))
     where
       -- what lies behind the reference, at the type by which the code reads it
-      cell-at : (u : Val) → _≡_ {A = Item 𝓤} (‵ (cellAt fullShare (S.the-row .mir) (u ∷ []) (L .b) (L .o))) (‵ (fat fullShare (rawTy (τ .state)) (L .b) (L .o) u))
-      cell-at u = ap (λ (σ : Ty). ‵ (fat fullShare (rawTy σ) (L .b) (L .o) u)) (sym (right .state-is))
+      cell-at : (u : Val) → _≡_ {A = Item 𝓤} (‵ (cellAt fullShare (S.the-row .mir) (u ∷ []) (B .b) (B .o))) (‵ (fat fullShare (rawTy (τ .state)) (B .b) (B .o) u))
+      cell-at u = ap (λ (σ : Ty). ‵ (fat fullShare (rawTy σ) (B .b) (B .o) u)) (sym (right .state-is))

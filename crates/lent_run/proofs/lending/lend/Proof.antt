@@ -16,15 +16,15 @@ use prog.Wp.{Heap, Calls, Loops, Env, WpFn, Tables}
 use ghost.Atoms.{Atoms, sem}
 use contract.Monad.{Fun}
 use contract.Running.{givenOf, tables, tablesOf}
-use types.Kit.{Given, Item, ‵, Seq, runs, frees, prop, atRet, _$_, _∵_, !, qed, by, move, keep, fjoin, suffices, done}
+use types.Kit.{Given, Item, ‵, Seq, runs, frees, prop, atRet, _$_, _∵_, !, qed, by, move, keep, use0, fjoin, suffices, done}
 use types.Run.{look, init, forget, stop, from, load, of-opd, and-then, no-more, assigns, returns, enter, alloc1, alloc0, params1, pass1, pass0, free1, free0}
 use types.Part.{agg}
 use sound.WpLaws.{FmC, fmOf, WpFn-mono}
 use denote.RattleType.{owns}
 use denote.Laws.{Is}
-use denote.Plain.{uint-makes, uint-vals, uint-tells}
+use denote.Plain.{uint-vals, uint-tells}
 use denote.Builtin.{usize, u32}
-use denote.Steps.{owned, nothing}
+use denote.Steps.{owned}
 use denote.Struct.Laws as LL
 use denote.Triple.Entry.{onEntry}
 use denote.Triple.Spec.{Meets, tripleOf}
@@ -39,9 +39,9 @@ use Rattle.scheduler.specs.declared.call.Call.the-variants as call
 use Rattle.scheduler.specs.declared.answer.Answer.{Answer}
 use Rattle.scheduler.specs.declared.scheduler.QoSScheduler.{QoSScheduler}
 use Rattle.scheduler.specs.Scheduler.{Valid, MeetsLent}
-use Rattle.scheduler.proofs.MachineValues.{OfTy, state-typed, answer-typed}
+use Rattle.scheduler.proofs.MachineValues.{OfTy, state-typed, answer-typed, slotVals, tickVals, tickOwns, tick-owned}
 use Rattle.scheduler.proofs.Lending.{loanTy, lendCode, lends}
-use Rattle.scheduler.proofs.Loans.{slotVals, Block, Tick, block-on-loan, tick-on-loan}
+use Rattle.scheduler.proofs.Loans.{Block, Tick, block-on-loan, tick-on-loan}
 use Rattle.scheduler.proofs.scheduler.QoSScheduler as S
 use Rattle.scheduler.proofs.scheduler.QoSScheduler.Laws as S′
 use Rattle.scheduler.proofs.answer.Answer as N
@@ -142,15 +142,14 @@ module _ {M : Type 1} (𝓤 : URA M) (H : Heap 𝓤) (A : Atoms 𝓤) (W : Given
   exits r v made both =
       qed W (‵ ftrue ∷ []) ∵
       suffices ! _ (ends-at 𝓤 H A lend.ended stayed (lend.clauses 𝓤 H A mem run) W ((tt, tt, tt, x, at), tt) v r (tt, (tt, (tt, (tt, tt)))) (tt, (tt, (tt, (tt, tt))))) $ says ! both $
-      owned ! T.the-row (Is T.the-row) (LL.makes T.the-type T′.the-plain 𝓤 H A) r (v ∷ []) made $ nothing ! $
-      owned ! u32 (Is u32) (uint-makes 𝓤 H A W w32) elapsed _ (refl, elapsed-fits) $ fjoin ! $ owned ! usize (Is usize) (uint-makes 𝓤 H A W w64) core _ (refl, core-fits) $ fjoin ! $
+      owned ! T.the-row (Is T.the-row) (LL.makes T.the-type T′.the-plain 𝓤 H A) r (v ∷ []) made $ use0 W (‵ (tickOwns core elapsed)) (tick-owned 𝓤 H A W core elapsed core-fits elapsed-fits) $
       owned ! L.the-row (Is L.the-row) (LL.makes L.the-type L′.the-plain 𝓤 H A) slot _ slot-is $ fjoin ! $ owned ! S.the-row (Is S.the-row) (LL.makes S.the-type S′.the-plain 𝓤 H A) s _ is $ fjoin ! $
       move ! (2 ∷ 0 ∷ 1 ∷ []) $ done !
 
   module _ (C : Calls 𝓤 H) (Λ : Loops 𝓤 H) (fm : FmC 𝓤 H (W .laws) C) (known-block : Triple 𝓤 (C #block) (Block 𝓤 H A mem run)) (known-tick : Triple 𝓤 (C #tick) (Tick 𝓤 H A mem run)) where
-    walk : Valid s → ent 𝓤 (onEntry 𝓤 H A lend.signature tt tt x at) (WpFn 𝓤 H C Λ code.function (w ∷ LL.val L.the-type L′.the-laws slot ∷ vint w64 core ∷ vint w32 elapsed ∷ []) Post)
+    walk : Valid s → ent 𝓤 (onEntry 𝓤 H A lend.signature tt tt x at) (WpFn 𝓤 H C Λ code.function (w ∷ LL.val L.the-type L′.the-laws slot ∷ tickVals core elapsed) Post)
     walk valid =
-        qed W (‵ ftrue ∷ ‵ (owns (S.the-row ∷ L.the-row ∷ usize ∷ u32 ∷ []) x at) ∷ []) ∵ enter ! C Λ code.function (w ∷ LL.val L.the-type L′.the-laws slot ∷ vint w64 core ∷ vint w32 elapsed ∷ []) _ $
+        qed W (‵ ftrue ∷ ‵ (owns (S.the-row ∷ L.the-row ∷ usize ∷ u32 ∷ []) x at) ∷ []) ∵ enter ! C Λ code.function (w ∷ LL.val L.the-type L′.the-laws slot ∷ tickVals core elapsed) _ $
         alloc1 ! (λ l₀. alloc1 ! (λ l₁. alloc1 ! (λ l₂. alloc1 ! (λ l₃. alloc1 ! (λ l₄. alloc1 ! (λ l₅. alloc1 ! (λ l₆. alloc1 ! (λ l₇. alloc1 ! (λ l₈. alloc1 ! (λ l₉. alloc1 ! (λ l₁₀. alloc1 ! (λ l₁₁. alloc0 ! $
         params1 ! $ pass1 ! (init ! 20 refl (LL.lawful S.the-type S′.the-laws 𝓤 H A W .typed s _ is .0)) $ pass1 ! (init ! 18 refl (LL.lawful L.the-type L′.the-laws 𝓤 H A W .typed slot _ slot-is .0)) $
         pass1 ! (init ! 16 refl (tt, record { fits = core-fits })) $ pass1 ! (init ! 14 refl (tt, record { fits = elapsed-fits })) $ pass0 ! $
