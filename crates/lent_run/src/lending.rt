@@ -13,6 +13,7 @@ pub(crate) struct Lent {
     pub after: QoSScheduler,
 }
 
+// Lends the state to block, and what that left to tick.
 pub(crate) fn lend(mut state: QoSScheduler, slot: Slot, core: usize, elapsed_us: u32) -> Lent
     requires { ⌜ Valid state ⌝ }
     ensures { λ r. ⌜ MeetsLent (Call.Block slot) state (r .blocked) (r .between) × MeetsLent (Call.Tick core «elapsed_us») (r .between) (r .ticked) (r .after) ⌝ }

@@ -20,7 +20,7 @@ use Rattle.scheduler.specs.Stretch.{Event, events, breaks, picks}
 use Rattle.scheduler.specs.Demand3.{Point}
 use Rattle.scheduler.specs.Longest.{Longest}
 use Rattle.scheduler.specs.Scheduler.{queuesOf, abs, Valid, IsNew, Meets}
-use Rattle.scheduler.specs.History.{Made, History, Done, byValue, onLent, Mixed, madeOf, left, callsOf, happened, stretchIn, outcomeOf, CodePoint, CodeClaim}
+use Rattle.scheduler.specs.History.{Made, History, Way, byValue, onLent, Mixed, madeOf, left, callsOf, happened, stretchIn, outcomeOf, CodePoint, CodeClaim}
 use Rattle.scheduler.proofs.Calls.{new-accepted, call-accepted}
 use Rattle.scheduler.proofs.Stretches.{longest}
 use Rattle.scheduler.proofs.Waiting.{rules-demand3}
@@ -50,7 +50,7 @@ history-cut s (m ∷ a) b h =
     ((h .0, parts .0), parts .1)
 
 -- calls on a lent state beside calls by value make a history
-pub mixed-history : (s : QoSScheduler) (done : List Done) → Mixed s done → History s (map madeOf done)
+pub mixed-history : (s : QoSScheduler) (ways : List Way) → Mixed s ways → History s (map madeOf ways)
 unfolding Mixed History madeOf
 mixed-history s [] h = tt
 mixed-history s (byValue call reply ∷ rest) h = (h .0, mixed-history (reply .state) rest (h .1))

@@ -70,7 +70,7 @@ parts r v is = record {
 
 -- ---- the types of locals
 
--- how a function's code spells the types of an answer, a state and a reply
+-- how a function's code spells the types of an answer, a state and a reply, and that they are these types
 pub record Types : Type 0 where
   pub answer : Ty
   pub state : Ty
@@ -187,8 +187,10 @@ module _ {M : Type 1} {𝓤 : URA M} {H : Heap 𝓤} {A : Atoms 𝓤} {K : Type 
       rewrite t 0 (λ (us′ : List Val). ‵ (S.the-row .own s us′)) (before .only-it) refl $
       rewrite t 1 (λ (us′ : List Val). ‵ (cellAt fullShare (S.the-row .mir) us′ (B .b) (B .o))) (before .only-it) refl $
       -- [what the state owns; its cell; the open borrow; obs; auth; the reference; room for the answer, the copy and the reply; …]
+      -- the state is copied
       assigns t (of-opd t (load t (from t (hop t (look t 5 refl) (stop t))) (look-raw t 1 {τ = τ .state} (cell-at w)))) (at-spot t state-at (stop t))
       (init t 7 refl (state-typed 𝓤 H A W (right .state-is) s w (before .is))) $
+      -- the method is called on the copy
       use1 W (raw (c .pre (m .ghost w))) (m .needs w) $
       calls-at t fm c known (m .ghost w)
       (subst (Opds K W (raw (c .pre (m .ghost w)) ∷ at-call 𝓤 τ B L s w Γ) (locals 𝓤 H τ L more) (copy (place state []) ∷ arguments)) (sym (m .args-are w))
@@ -203,6 +205,7 @@ module _ {M : Type 1} {𝓤 : URA M} {H : Heap 𝓤} {A : Atoms 𝓤} {K : Type 
       land t (at-spot t reply-at (stop t)) (init t 7 refl (subst (OfTy (τ .reply)) (sym (after .whole-is)) (reply-typed τ right (after .answer) (after .state) answer-fits state-fits))) $
       rewrite t 7 (λ (u : Val). ‵ (fat fullShare (τ .reply) (L .reply) zero u)) (after .whole-is) refl $
       rewrite t 7 (λ (σ : Ty). ‵ (fat fullShare σ (L .reply) zero (pair (after .answer) (after .state)))) (right .reply-is) refl $
+      -- the reply's state goes behind the reference, and its answer into the result
       assigns t (of-opd t (load t (at-spot t reply-at (fld t (ap (λ (σ : Ty). fieldOf σ 1) (right .reply-is)) (stop t))) (look-in t 7 (sub t 1 refl (whole t)))))
       (from t (hop t (look t 4 refl) (stop t))) (store-raw t 0 {τ = τ .state} (cell-at w) state-fits) $
       assigns t (of-opd t (load t (at-spot t reply-at (fld t (ap (λ (σ : Ty). fieldOf σ 0) (right .reply-is)) (stop t))) (look-in t 7 (sub t 0 refl (whole t)))))

@@ -28,19 +28,19 @@ unfoldable pub History : QoSScheduler → List Made → Type 0
 History s [] = Unit
 History s (a ∷ rest) = Meets (a .call) s (a .reply) × History (a .reply .state) rest
 
--- one call by value, or one on a lent state, with what it left behind the reference
-pub data Done : Type 0 where
-  byValue : Call → Reply → Done
-  onLent : Call → Answer → QoSScheduler → Done
+-- a call that was made by value, with its reply, or on a lent state, with its answer and what it left behind the reference
+pub data Way : Type 0 where
+  byValue : Call → Reply → Way
+  onLent : Call → Answer → QoSScheduler → Way
 
--- calls of both kinds, in whatever order: each keeps its own contract, at the scheduler that the one before returned or left
-unfoldable pub Mixed : QoSScheduler → List Done → Type 0
+-- calls made in both ways, in whatever order: each keeps its contract at the scheduler that the one before returned or left
+unfoldable pub Mixed : QoSScheduler → List Way → Type 0
 Mixed s [] = Unit
 Mixed s (byValue call reply ∷ rest) = Meets call s reply × Mixed (reply .state) rest
 Mixed s (onLent call answer after ∷ rest) = MeetsLent call s answer after × Mixed after rest
 
--- the call, and what came back, whichever kind it was
-unfoldable pub madeOf : Done → Made
+-- the call, and what the code gave back, whichever way
+unfoldable pub madeOf : Way → Made
 madeOf (byValue call reply) = record { call = call; reply = reply }
 madeOf (onLent call answer after) = record { call = call; reply = record { answer = answer; state = after } }
 

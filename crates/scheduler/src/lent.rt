@@ -1,5 +1,5 @@
-// Block and tick on a lent state, which they change: what a method gives back by value, its answer is returned and its state
-// is stored behind the reference.
+// Block and tick on a lent state, which they change. The method by value does the call; its answer is returned, and the state
+// that it gives back is stored behind the reference.
 ghost use Rattle.scheduler.specs.Scheduler.{Valid, MeetsLent};
 use crate::answer::Answer;
 use crate::call::Call;

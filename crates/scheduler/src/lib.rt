@@ -11,8 +11,8 @@
 //
 // Every call presumes only `Valid`: the scheduler came from `new`, an accepted image or an earlier call. It answers for all
 // arguments, and ensures `Meets`: the whole answer and the whole state are what document 01's rule for it makes, and the
-// scheduler that it gives back, or leaves behind the reference, is valid again. specs/ has the rules as definitions over these types; proofs/ has the laws
-// that hold for all of them.
+// scheduler that it gives back, or leaves behind the reference, is valid again. specs/ has the rules as definitions over
+// these types; proofs/ has the laws that hold for all of them.
 mod answer;
 mod call;
 mod lent;

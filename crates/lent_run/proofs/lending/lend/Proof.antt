@@ -59,7 +59,7 @@ use Rattle.lent_run.proofs.lending.lend as lend
 use Rattle.lent_run.proofs.lending.lend.Statement as stated
 use Rattle.lent_run.proofs.lending.lend.Code as code
 
--- the function's result, as antt has it
+-- the function's result
 abbrev Result : Type 0
 Result = T.the-row .Denot
 
@@ -105,8 +105,10 @@ module _ (α σ ρ λ′ : Ty) (l₀ l₁ l₂ l₃ l₄ l₅ l₆ l₇ l₈ l�
       Seq K W (at-entry 𝓤 w (LL.val L.the-type L′.the-laws slot) core elapsed Γ) (runs C Λ (locals 𝓤 H) body (atRet (locals 𝓤 H) Kf))
   runs-so {M} {𝓤} {H} {A} {K} {W} t α-is σ-is ρ-is mem run s w slot core elapsed is slot-is core-fits elapsed-fits valid fm known-block known-tick ends =
       assigns t (of-opd t (load t (from t (stop t)) (look t 3 refl))) (from t (stop t)) (init t 0 refl (state-typed 𝓤 H A W σ-is s w is)) $
+      -- lent to block
       lends t α-is σ-is l₅ l₉ l₆ s w is (block-on-loan 𝓤 H A W mem run l₅ s valid slot slot-is) fm known-block refl refl refl (λ i j. and-then t (load t (from t (stop t)) (look t 5 refl)) (no-more t))
       (λ blocked v₁ between v₂ is₁ is₂ first.
+      -- what it left is kept, and lent to tick
       assigns t (of-opd t (load t (from t (stop t)) (look t 0 refl))) (from t (stop t)) (init t 7 refl (state-typed 𝓤 H A W σ-is between v₂ is₂)) $
       move t (0 ∷ 9 ∷ 8 ∷ []) $
       lends t α-is σ-is l₅ l₁₀ l₈ between v₂ is₂ (tick-on-loan 𝓤 H A W mem run l₅ between (first .valid) core elapsed core-fits elapsed-fits) fm known-tick refl refl refl
@@ -116,6 +118,7 @@ module _ (α σ ρ λ′ : Ty) (l₀ l₁ l₂ l₃ l₄ l₅ l₆ l₇ l₈ l�
       let a₂ : OfTy σ v₂ = state-typed 𝓤 H A W σ-is between v₂ is₂ in
       let a₃ : OfTy α v₃ = answer-typed 𝓤 H A W α-is ticked v₃ is₃ in
       let a₄ : OfTy σ v₄ = state-typed 𝓤 H A W σ-is after v₄ is₄ in
+      -- the four are put together
       assigns t (of-opd t (load t (from t (stop t)) (look t 0 refl))) (from t (stop t)) (init t 10 refl a₄) $
       assigns t (agg t (and-then t (load t (from t (stop t)) (look t 4 refl)) (and-then t (load t (from t (stop t)) (look t 9 refl)) (and-then t (load t (from t (stop t)) (look t 2 refl)) (and-then t (load t (from t (stop t)) (look t 10 refl)) (no-more t))))))
       (from t (stop t)) (init t 11 refl (subst (λ (τ : Ty). OfTy τ (four v₁ v₂ v₃ v₄)) (sym ρ-is)
