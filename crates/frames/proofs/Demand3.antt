@@ -3,7 +3,7 @@ use mathlib.Core.Path.{_≡_, refl, sym, subst, _∙_}
 use mathlib.Core.List.{List, map}
 use Prim.Native.Nat.{ℕ}
 use Rattle.scheduler.specs.declared.scheduler.QoSScheduler.{QoSScheduler}
-use Rattle.scheduler.specs.History.{Way, Mixed, madeOf, CodeClaim}
+use Rattle.scheduler.specs.History.{MadeEither, Mixed, madeOf, CodeClaim}
 use Rattle.scheduler.specs.Scheduler.{abs, Valid}
 use Rattle.scheduler.specs.State.{State}
 use Rattle.scheduler.proofs.Histories.{mixed-history, code-demand3, stored}
@@ -61,5 +61,5 @@ demand3 s start made h =
     subst (λ (t : State). CodeClaim t s made) (is .state-is) (code-demand3 s (is .valid) made h)
 
 -- the same where some of the calls were on a lent state
-pub lent-demand3 : (s : QoSScheduler) (start : Start s) (ways : List Way) → Mixed s ways → CodeClaim (startState start) s (map madeOf ways)
-lent-demand3 s start ways h = demand3 s start (map madeOf ways) (mixed-history s ways h)
+pub lent-demand3 : (s : QoSScheduler) (start : Start s) (made : List MadeEither) → Mixed s made → CodeClaim (startState start) s (map madeOf made)
+lent-demand3 s start made h = demand3 s start (map madeOf made) (mixed-history s made h)

@@ -9,7 +9,7 @@ use records::Slot;
 use scheduler::Answer;
 use scheduler::QoSScheduler;
 
-// Both answers and both states, from the state that was lent.
+// Whether both answers and both states are those of the methods by value, from the same state.
 pub(crate) fn as_by_value(
     state: QoSScheduler,
     slot: Slot,

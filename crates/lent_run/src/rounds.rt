@@ -1,5 +1,5 @@
 // A long list of calls: in each round one by value, then a block and a tick on a lent state, from which the next round goes
-// on. 64 tasks in three bands; slots 0, 6, .. 66 and cores 0, 13, .. 65 are named, of which the last ones are too large.
+// on. 64 tasks in three bands; slots 0 to 65 and cores 0, 21, 42, 63 and 84 are named, so that there are some too large.
 ghost use Rattle.scheduler.specs.Scheduler.{Valid};
 use crate::comparing::as_by_value;
 use crate::lending::lend;
@@ -17,7 +17,7 @@ use scheduler::Status;
 
 const ROUNDS: u64 = 5_000;
 
-// More than so many of the rounds are to block a task, and more than so many to pick one.
+// The rounds show something only if more than so many of them block a task, and more than so many pick one.
 const MANY: u64 = 500;
 
 pub(crate) fn rounds() {
@@ -102,14 +102,23 @@ fn number_after(seed: u32) -> u32 {
 }
 
 fn slot_of(seed: u32) -> Slot {
-    Slot((seed / 8 % 12 * 6) as usize)
+    Slot((seed / 8 % 66) as usize)
 }
 
 fn core_of(seed: u32) -> usize {
-    (seed / 96 % 6 * 13) as usize
+    (seed / 528 % 5 * 21) as usize
 }
 
-// A call of any kind that changes the state, but for block, tick and plan.
+// All cores, or cores 0 and 42, or cores 21 and 63.
+fn mask_of(seed: u32) -> u64 {
+    match seed % 3 {
+        0 => 0,
+        1 => 4_398_046_511_105,
+        _ => 9_223_372_036_856_872_960,
+    }
+}
+
+// A call that changes the state, of any kind but block and tick, which each round does anyway, and plan, which is a tick.
 fn call_of(seed: u32) -> Call {
     let slot = slot_of(seed);
     let core = core_of(seed);
@@ -123,7 +132,7 @@ fn call_of(seed: u32) -> Call {
         },
         1 => Call::Affinity {
             slot,
-            mask: (seed % 3) as u64 * 8_193,
+            mask: mask_of(seed),
         },
         2 => Call::Terminate(slot),
         3 => Call::Enqueue(slot),

@@ -1,21 +1,28 @@
-// What the program prints: the answers of a lent state with whether all was as by value, a number, or yes or no, each on a
-// line of its own.
+// What the program prints.
 use frames::ANSWER_MAX;
 use frames::write_answer;
 use libc::STDOUT_FILENO;
 use scheduler::Answer;
 
-// A line with what was done, the answers of block and of tick as document 01 writes them, and whether all was as by value.
-pub(crate) fn show_lent(what: &[u8], blocked: Answer, ticked: Answer, same: bool) {
+// What was done, which call it was, its answer as document 01 writes it, and whether the state is as it was before it.
+pub(crate) fn show_answer(what: &[u8], call: &[u8], answer: Answer, kept: bool) {
     print(what);
-    print(b": block ");
-    print_answer(blocked);
-    print(b", tick ");
-    print_answer(ticked);
-    if same {
-        print(b", as by value\n");
+    print(call);
+    print(b" ");
+    print_answer(answer);
+    if kept {
+        print(b" state kept,");
     } else {
-        print(b", NOT as by value\n");
+        print(b" state changed,");
+    }
+}
+
+// The end of a line: whether all was as by value.
+pub(crate) fn show_as(same: bool) {
+    if same {
+        print(b" as by value\n");
+    } else {
+        print(b" NOT as by value\n");
     }
 }
 

@@ -1,5 +1,5 @@
 -- A caller that holds a state in a local and lends it, in the program logic: the reference is made, the function on a lent state is called, and the
--- local holds what it left. Such a caller is walked by hand; this is the part of its walk about one call, whatever function is called.
+-- local holds what it left. Such a caller is walked by hand; this is the part of its walk about one call, whichever call the function does.
 -- Assumes nothing.
 use mathlib.Core.Path.{_≡_, refl, sym, subst}
 use Prim.Native.Nat.{ℕ, zero}
@@ -52,7 +52,7 @@ referenceTo b s γ = record { ptr = (b, zero); name = γ; now = s }
 
 -- by its contract c a function does the call `asked` on the state s that is lent to it from b, for a lifetime ν of the call; vs are the machine
 -- values of its other arguments
-pub record OnLoan {M : Type 1} (𝓤 : URA M) (H : Heap 𝓤) (A : Atoms 𝓤) (s : QoSScheduler) (asked : Call) (c : Contract 𝓤) (b : ℕ) (vs : List Val) : Type 2 where
+pub record Loan {M : Type 1} (𝓤 : URA M) (H : Heap 𝓤) (A : Atoms 𝓤) (s : QoSScheduler) (asked : Call) (c : Contract 𝓤) (b : ℕ) (vs : List Val) : Type 2 where
   pub ghost : ℕ → GName → c .Ghost
   pub args-are : (ν : ℕ) (γ : GName) → c .args (ghost ν γ) ≡ vptr b zero ∷ vs
   pub needs : (ν : ℕ) (γ : GName) → ent 𝓤 (sep 𝓤 (A .lft (ν ∷ []) fullShare) (sem 𝓤 H A (MutRef (named 0) (ν ∷ []) S.the-row .own (referenceTo b s γ) (vptr b zero ∷ [])))) (c .pre (ghost ν γ))
@@ -83,7 +83,7 @@ module _ {M : Type 1} {𝓤 : URA M} {H : Heap 𝓤} {A : Atoms 𝓤} {K : Type 
   -- b, l and a are where the locals lie, σ and α the types of a state and of an answer as the code spells them, w the state's machine value
   pub lends : K → {α σ : Ty} → α ≡ N′.mir → σ ≡ S′.mir → (b l a : ℕ) {E : Env 𝓤 H} {C : Calls 𝓤 H} {Λ : Loops 𝓤 H} {q : Post 𝓤 H} {Γ : List (Item 𝓤)}
       {function : Name} {arguments : List Operand} {state lent answer : ℕ} {rest : Code} {vs : List Val} (s : QoSScheduler) (w : Val) {asked : Call} {c : Contract 𝓤} →
-      Is S.the-row s (w ∷ []) → OnLoan 𝓤 H A s asked c b vs → FmC 𝓤 H (W .laws) C → Triple 𝓤 (C function) c →
+      Is S.the-row s (w ∷ []) → Loan 𝓤 H A s asked c b vs → FmC 𝓤 H (W .laws) C → Triple 𝓤 (C function) c →
       spotOf 𝓤 H E state ≡ (σ, b, zero) → spotOf 𝓤 H E lent ≡ (loanTy, l, zero) → spotOf 𝓤 H E answer ≡ (α, a, zero) →
       ((i j : Item 𝓤) → Opds K W (i ∷ j ∷ ‵ (fat fullShare loanTy l zero (vptr b zero)) ∷ ‵ (froom α a zero) ∷ Γ) E arguments vs) →
       ((r : Answer) (v : Val) (s′ : QoSScheduler) (w′ : Val) → Is N.the-row r (v ∷ []) → Is S.the-row s′ (w′ ∷ []) → MeetsLent asked s r s′ →

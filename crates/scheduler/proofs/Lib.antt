@@ -13,7 +13,7 @@
 --
 -- and what any crate may use: Says pairs each test with the fact that it tests, Stored reads the scheduler's arrays as the state that they hold;
 -- for a caller that lends a state from a local, which has to be walked by hand, Lending is one such call, Loans are block and tick as it meets
--- them, and MachineValues has what there is to know of a state's machine value.
+-- them, and MachineValues has the facts about machine values that these use.
 --
 -- How the rules' laws are shown: Lists and Parts are about lists and stores, Invariant is acceptance as the proofs
 -- carry it, Moves are the changes that calls are made of, Effects what each call does, Course every call followed once, Turns one call as X

@@ -29,20 +29,20 @@ History s [] = Unit
 History s (a ∷ rest) = Meets (a .call) s (a .reply) × History (a .reply .state) rest
 
 -- a call that was made by value, with its reply, or on a lent state, with its answer and what it left behind the reference
-pub data Way : Type 0 where
-  byValue : Call → Reply → Way
-  onLent : Call → Answer → QoSScheduler → Way
+pub data MadeEither : Type 0 where
+  byValue : Call → Reply → MadeEither
+  lent : Call → Answer → QoSScheduler → MadeEither
 
--- calls made in both ways, in whatever order: each keeps its contract at the scheduler that the one before returned or left
-unfoldable pub Mixed : QoSScheduler → List Way → Type 0
+-- calls made either way, in whatever order: each keeps its contract at the scheduler that the one before returned or left
+unfoldable pub Mixed : QoSScheduler → List MadeEither → Type 0
 Mixed s [] = Unit
 Mixed s (byValue call reply ∷ rest) = Meets call s reply × Mixed (reply .state) rest
-Mixed s (onLent call answer after ∷ rest) = MeetsLent call s answer after × Mixed after rest
+Mixed s (lent call answer after ∷ rest) = MeetsLent call s answer after × Mixed after rest
 
 -- the call, and what the code gave back, whichever way
-unfoldable pub madeOf : Way → Made
+unfoldable pub madeOf : MadeEither → Made
 madeOf (byValue call reply) = record { call = call; reply = reply }
-madeOf (onLent call answer after) = record { call = call; reply = record { answer = answer; state = after } }
+madeOf (lent call answer after) = record { call = call; reply = record { answer = answer; state = after } }
 
 -- the scheduler that a history leaves
 unfoldable pub left : QoSScheduler → List Made → QoSScheduler
