@@ -6,7 +6,7 @@ use Rattle.scheduler.specs.declared.scheduler.QoSScheduler.{QoSScheduler}
 use Rattle.scheduler.specs.History.{MadeEither, Mixed, madeOf, CodeClaim}
 use Rattle.scheduler.specs.Scheduler.{abs, Valid}
 use Rattle.scheduler.specs.State.{State}
-use Rattle.scheduler.proofs.Histories.{mixed-history, code-demand3, stored}
+use Rattle.scheduler.proofs.Histories.{mixed-is, code-demand3, stored}
 use Rattle.frames.specs.declared.read.ImageRead.{ImageRead}
 use Rattle.frames.specs.declared.read.ImageStatus.{ImageStatus}
 use Rattle.frames.specs.declared.read.ImageStatus.the-variants as read
@@ -62,4 +62,4 @@ demand3 s start made h =
 
 -- the same where some of the calls were on a lent state
 pub lent-demand3 : (s : QoSScheduler) (start : Start s) (made : List MadeEither) → Mixed s made → CodeClaim (startState start) s (map madeOf made)
-lent-demand3 s start made h = demand3 s start (map madeOf made) (mixed-history s made h)
+lent-demand3 s start made h = demand3 s start (map madeOf made) (subst (λ (held : Type 0). held) (mixed-is s made) h)

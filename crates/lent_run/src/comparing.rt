@@ -28,7 +28,7 @@ pub(crate) fn as_by_value(
         && same_state(lent.after, ticked.state)
 }
 
-pub(crate) fn same_answer(one: Answer, other: Answer) -> bool {
+fn same_answer(one: Answer, other: Answer) -> bool {
     let mut first = [0u8; ANSWER_MAX];
     let mut second = [0u8; ANSWER_MAX];
     let n = write_answer(one, &mut first);

@@ -19,7 +19,7 @@ use Rattle.scheduler.specs.Took.{Carries}
 use Rattle.scheduler.specs.Stretch.{Event, events, breaks, picks}
 use Rattle.scheduler.specs.Demand3.{Point}
 use Rattle.scheduler.specs.Longest.{Longest}
-use Rattle.scheduler.specs.Scheduler.{queuesOf, abs, Valid, IsNew, Meets}
+use Rattle.scheduler.specs.Scheduler.{queuesOf, abs, Valid, IsNew, Meets, MeetsLent}
 use Rattle.scheduler.specs.History.{Made, History, MadeEither, byValue, lent, Mixed, madeOf, left, callsOf, happened, stretchIn, outcomeOf, CodePoint, CodeClaim}
 use Rattle.scheduler.proofs.Calls.{new-accepted, call-accepted}
 use Rattle.scheduler.proofs.Stretches.{longest}
@@ -49,18 +49,12 @@ history-cut s (m ∷ a) b h =
     let parts : History (m .reply .state) a × History (left (m .reply .state) a) b = history-cut (m .reply .state) a b (h .1) in
     ((h .0, parts .0), parts .1)
 
--- calls on a lent state beside calls by value are a history, and a history's calls may have been made either way
-pub mixed-history : (s : QoSScheduler) (made : List MadeEither) → Mixed s made → History s (map madeOf made)
+-- calls made either way are a history, and a history's calls may have been made either way
+pub mixed-is : (s : QoSScheduler) (made : List MadeEither) → Mixed s made ≡ History s (map madeOf made)
 unfolding Mixed History madeOf
-mixed-history s [] h = tt
-mixed-history s (byValue call reply ∷ rest) h = (h .0, mixed-history (reply .state) rest (h .1))
-mixed-history s (lent call answer after ∷ rest) h = (h .0, mixed-history after rest (h .1))
-
-pub history-mixed : (s : QoSScheduler) (made : List MadeEither) → History s (map madeOf made) → Mixed s made
-unfolding Mixed History madeOf
-history-mixed s [] h = tt
-history-mixed s (byValue call reply ∷ rest) h = (h .0, history-mixed (reply .state) rest (h .1))
-history-mixed s (lent call answer after ∷ rest) h = (h .0, history-mixed after rest (h .1))
+mixed-is s [] = refl
+mixed-is s (byValue call reply ∷ rest) = ap (λ (later : Type 0). Meets call s reply × later) (mixed-is (reply .state) rest)
+mixed-is s (lent call answer after ∷ rest) = ap (λ (later : Type 0). MeetsLent call s answer after × later) (mixed-is after rest)
 
 -- ---- its states, answers and events are the rules'
 
