@@ -22,10 +22,10 @@ use Rattle.frames.specs.Fits.{HasImage}
 use Rattle.frames.proofs.AcceptedImages.{has-image}
 use Rattle.frames.proofs.Images.{flagNumber-small}
 
--- tid, band, state, context, cr3, rsp0, mask, budget, consumed, in use
+-- the struct has in use behind its state; the record's bytes have it last
 typed-record : (t : TaskControlBlock) (vs : List Val) → Is (row block.the-type) t vs → FitsRecord t
 unfolding Fit
-typed-record t vs (_, (_, (tid, (_, (_, (context, (cr3, (rsp0, (mask, (budget, (consumed, _))))))))))) = (
+typed-record t vs (_, (_, (tid, (_, (_, (_, (context, (cr3, (rsp0, (mask, (budget, (consumed, _)))))))))))) = (
   tid .1 .1 .0 .1,
   (
     omega (arith, bandCode-small (t .qos)),

@@ -16,24 +16,21 @@ use Rattle.records.specs.Mask.{permits}
 use Rattle.records.specs.Task.{emptyRecord}
 use Rattle.queue.specs.declared.BandQueue.{BandQueue}
 use Rattle.queue.specs.Stored.{Holds}
-use Rattle.scheduler.specs.declared.answer.Answer.{Answer}
 use Rattle.scheduler.specs.declared.answer.ContextSwitchTarget.{ContextSwitchTarget}
-use Rattle.scheduler.specs.declared.answer.ContextSwitchTarget.the-variants.{Task, Idle}
 use Rattle.scheduler.specs.declared.answer.CoreOption.the-variants as core
-use Rattle.scheduler.specs.declared.answer.PlanOption.{PlanOption}
 use Rattle.scheduler.specs.declared.answer.PlanOption.the-variants as plan
 use Rattle.scheduler.specs.declared.answer.TaskOption.the-variants as task
+use Rattle.scheduler.specs.declared.answer.Value.{Value}
 use Rattle.scheduler.specs.declared.answer.Value.the-variants as value
+use Rattle.scheduler.specs.declared.picking.Form.the-variants as form
 use Rattle.scheduler.specs.declared.scheduler.QoSScheduler.{QoSScheduler}
-use Rattle.scheduler.specs.declared.scheduler.Reply.{Reply}
 use Rattle.scheduler.specs.State as state
 use Rattle.scheduler.specs.State.{noneByte, newState, holderIn, holderOf, firstPlace}
 use Rattle.scheduler.specs.Accepted.{Accepted, Each}
-use Rattle.scheduler.specs.Outcome.{answered}
 use Rattle.scheduler.specs.Queries.{canRunOnCore, hasTid, taskIndexForTid, taskAt, recordOf, currentTaskOnCpu, coreOf}
-use Rattle.scheduler.specs.Ticking.{targetOf, same, planOf}
+use Rattle.scheduler.specs.Ticking.{same}
 use Rattle.scheduler.specs.Waking.{released}
-use Rattle.scheduler.specs.Scheduler.{queuesOf, abs, Valid, IsNew, planFrom}
+use Rattle.scheduler.specs.Scheduler.{queuesOf, abs, Valid, IsNew, switchTo, targetWith, whoRuns}
 use Rattle.scheduler.proofs.Calls.{new-accepted}
 use Rattle.scheduler.proofs.Holders.{held, holder-below}
 use Rattle.scheduler.proofs.Searches.{search-found}
@@ -135,28 +132,11 @@ module _ {s : QoSScheduler} (v : Valid s) {c : ℕ} (low : c < 64) (d : ℕ) {o 
   core-record {h} is dt =
       rw (lt-leb 64 c low) (slot-record v dt (holder-below v low d o-is is) ∙ ap (λ (p : SlotOption). recordOf p (abs s)) (sym is ∙ read))
 
-  pub target-idle : o ≡ slot.None → Idle ≡ targetOf (holderOf (abs s) c) (abs s)
-  target-idle none = ap (λ (p : SlotOption). targetOf p (abs s)) (sym none ∙ read)
+-- ---- a plan
 
-  pub target-slot : {h : Slot} → o ≡ slot.Some h → (dt : TaskControlBlock) → Task h (getD (s .tasks) (h .0) dt .cr3) ≡ targetOf (holderOf (abs s) c) (abs s)
-  target-slot {h} is dt =
-      ap (λ (t : TaskControlBlock). Task h (t .cr3)) (record-at s v (h .0) dt (holder-below v low d o-is is))
-      ∙ ap (λ (p : SlotOption). targetOf p (abs s)) (sym is ∙ read)
+module _ (previous next : SlotOption) (cr3 : ℕ) {b : Bool} (b-is : b ≡ same previous next) where
+  pub plan-none : b ≡ true → value.Plan plan.None ≡ whoRuns form.Plan previous next cr3
+  plan-none equal = rw (sym b-is ∙ equal) refl
 
-  -- whether there is a plan, the core's holder being `o` now
-  tested : (previous : SlotOption) {b : Bool} → b ≡ same previous o → same previous (holderOf (abs s) c) ≡ b
-  tested previous b-is = ap (same previous) (sym read) ∙ sym b-is
-
-  pub plan-same : (previous : SlotOption) {b : Bool} → b ≡ same previous o → b ≡ true → plan.None ≡ planOf previous (holderOf (abs s) c) (abs s)
-  plan-same previous b-is equal = rw (tested previous b-is ∙ equal) refl
-
-  pub plan-other : (previous : SlotOption) {b : Bool} {t : ContextSwitchTarget} → b ≡ same previous o → b ≡ false → t ≡ targetOf (holderOf (abs s) c) (abs s) →
-      plan.Some (record { «prev_task_idx» = previous; target = t }) ≡ planOf previous (holderOf (abs s) c) (abs s)
-  plan-other previous b-is other t-is =
-      rw (tested previous b-is ∙ other) (λ i. plan.Some (record { «prev_task_idx» = previous; target = t-is i }))
-
--- a reply told as a plan
-pub plan-told : (previous : SlotOption) (c : ℕ) (reply : Reply) {a : Answer} {p : PlanOption} → a ≡ answered (reply .answer .pick) (value.Plan p) →
-    p ≡ planOf previous (holderOf (abs (reply .state)) c) (abs (reply .state)) → _≡_ {A = Reply} (record { answer = a; state = reply .state }) (planFrom previous c reply)
-plan-told previous c reply a-is p-is =
-    λ i. record { answer = (a-is ∙ ap (λ (x : PlanOption). answered (reply .answer .pick) (value.Plan x)) p-is) i; state = reply .state }
+  pub plan-other : {t : ContextSwitchTarget} {x : Value} → b ≡ false → t ≡ targetWith next cr3 → x ≡ switchTo previous t → x ≡ whoRuns form.Plan previous next cr3
+  plan-other other t-is x-is = x-is ∙ rw (sym b-is ∙ other) (ap (switchTo previous) t-is)

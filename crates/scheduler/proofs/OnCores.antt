@@ -1,4 +1,4 @@
--- Schedule and the tick's test for earlier bands meet their contract: going through the stored queues, and a law for each way out of the code.
+-- Picking and the tick's test for earlier bands meet their contract: going through the stored queues, and a law for each way out of the code.
 -- Assumes nothing.
 use mathlib.Core.Path.{_≡_, refl, sym, ap, _∙_, subst}
 use mathlib.Core.Bool.{Bool, true, false}
@@ -6,6 +6,7 @@ use mathlib.Core.List.{List}
 use Prim.Native.Nat.{ℕ, _+_, _≤_, _<_}
 use native.Mathlib.Omega.{arith}
 use lib.ListN.{length, getD, set}
+use lib.Seq.{getD-set-same}
 use Rattle.records.specs.declared.band.QoSClass.{QoSClass}
 use Rattle.records.specs.declared.ids.Slot.{Slot}
 use Rattle.records.specs.declared.ids.SlotOption.{SlotOption}
@@ -13,7 +14,7 @@ use Rattle.records.specs.declared.ids.SlotOption.the-variants as slot
 use Rattle.records.specs.declared.task.TaskControlBlock.{TaskControlBlock}
 use Rattle.records.specs.Band.{bandCode}
 use Rattle.records.specs.Mask.{permits}
-use Rattle.records.specs.Task.{picked}
+use Rattle.records.specs.Task.{emptyRecord, picked}
 use Rattle.queue.specs.declared.BandQueue.{BandQueue}
 use Rattle.queue.specs.declared.Taken.{Taken}
 use Rattle.queue.specs.Answers.{Take}
@@ -22,21 +23,29 @@ use Rattle.queue.specs.Stored.{entries, Holds}
 use Rattle.queue.proofs.Rules.{entryAt-some}
 use Rattle.scheduler.specs.declared.answer.Answer.{Answer}
 use Rattle.scheduler.specs.declared.answer.PickOption.the-variants as pick
+use Rattle.scheduler.specs.declared.answer.Value.{Value}
 use Rattle.scheduler.specs.declared.answer.Value.the-variants as value
 use Rattle.scheduler.specs.declared.call.Call.the-variants.{Schedule}
+use Rattle.scheduler.specs.declared.picking.Form.{Form}
 use Rattle.scheduler.specs.declared.scheduler.QoSScheduler.{QoSScheduler}
 use Rattle.scheduler.specs.declared.scheduler.Reply.{Reply}
-use Rattle.scheduler.specs.State.{noneByte, bandOrder, task, queue, withBand}
-use Rattle.scheduler.specs.Accepted.{ReadyOf}
-use Rattle.scheduler.specs.Outcome.{chosenAnswer}
-use Rattle.scheduler.specs.Picking.{permitted, placeFor, choice, afterPick, answerSlot, schedule}
+use Rattle.scheduler.specs.State.{State, noneByte, bandOrder, task, queue, withBand}
+use Rattle.scheduler.specs.Accepted.{Accepted, ReadyOf}
+use Rattle.scheduler.specs.Outcome.{Chosen, answered}
+use Rattle.scheduler.specs.Picking.{permitted, placeFor, choice, afterPick, ruleP, answerSlot, schedule}
 use Rattle.scheduler.specs.Ticking.{waitsBefore}
-use Rattle.scheduler.specs.Scheduler.{queuesOf, abs, Valid, Meets, Hold, toldBy}
+use Rattle.scheduler.specs.Scheduler.{queuesOf, abs, Valid, Meets, Gives, answerIn, whoRuns, Hold, toldBy}
+use Rattle.scheduler.proofs.Calls.{call-accepted}
 use Rattle.scheduler.proofs.Invariant.{ready-in-table}
 use Rattle.scheduler.proofs.Picks.{P-past, P-below}
-use Rattle.scheduler.proofs.Promises.{leaving, meets, meets-told}
+use Rattle.scheduler.proofs.Promises.{leaving, meets-told, meets-given, gives-chosen, gives-as}
 use Rattle.scheduler.proofs.Seeking.{Seeking, seeking-band, seeking-place, found-place, found-first, before, chosen, none-chosen, waits-found, waits-none}
 use Rattle.scheduler.proofs.Stored.{record-at, band-at, queue-at, queue-back}
+
+-- P is what schedule does
+P-accepted : {s : State} (core : ℕ) → Accepted s → Accepted (ruleP core s .state)
+unfolding schedule
+P-accepted {s} core ok = call-accepted (Schedule core) s ok
 
 -- ---- going through the stored queues
 
@@ -82,43 +91,55 @@ module _ {s : QoSScheduler} (v : Valid s) {core band place : ℕ} (k : Seeking (
           (before (abs s) core k b is e (sym entry-is ∙ some) (may ∙ passes)))
 
       -- the entry leaves, and runs on the core
-      pub schedule-picked : {a : Answer} {u : TaskControlBlock} {taken : Taken} → core < 64 → t ≡ true → Take (getD (s .queues) band dq) place taken →
+      pub pick-found : (f : Form) (previous : SlotOption) {a : Answer} {u : TaskControlBlock} {taken : Taken} {x : Value} → core < 64 → t ≡ true →
+          Take (getD (s .queues) band dq) place taken →
           u ≡ picked (getD (s .tasks) (e .0) d) →
-          a ≡ chosenAnswer e (getD (s .tasks) (e .0) d .qos) →
-          Meets (Schedule core) s (leaving s a (set (s .tasks) (e .0) u) (set (s .queues) band (taken .queue)) (set (s .current) core (e .0)))
-      unfolding schedule abs
-      schedule-picked {a} {u} {taken} below passes take u-is a-is =
+          x ≡ whoRuns f previous (slot.Some e) (getD (s .tasks) (e .0) d .cr3) →
+          a ≡ answered (pick.Some (record { slot = e; band = getD (s .tasks) (e .0) d .qos })) x →
+          Gives (answerIn f previous (ruleP core (abs s)))
+          (leaving s a (set (s .tasks) (e .0) u) (set (s .queues) band (taken .queue)) (set (s .current) core (e .0)))
+      unfolding abs
+      pick-found f previous {a} {u} {taken} below passes take u-is x-is a-is =
           let first : choice (abs s) core bandOrder ≡ pick.Some (record { slot = e; band = b }) = chosen (abs s) core k b is e (sym entry-is ∙ some) (may ∙ passes) in
           let read-so : getD (s .tasks) (e .0) d ≡ task (abs s) (e .0) = record-at s v (e .0) d entry-low in
           let of-band : getD (s .tasks) (e .0) d .qos ≡ b = ap (λ (r : TaskControlBlock). r .qos) read-so ∙ ready .of-band in
+          let runs : Chosen = afterPick (abs s) core (pick.Some (record { slot = e; band = b })) in
+          let stored : task (runs .state) (e .0) ≡ picked (task (abs s) (e .0)) =
+          getD-set-same (s .tasks) (e .0) (picked (task (abs s) (e .0))) emptyRecord (omega (arith, entry-low, v .accepted .slots)) in
           let back : Hold (set (s .queues) band (taken .queue)) (withBand (queuesOf (s .queues)) b (takenAt (placeFor (abs s) core b) (queue (abs s) b))) =
           queue-back v b is dq (rw (found-place (abs s) core k b is e (sym entry-is ∙ some) (may ∙ passes))
           (subst (λ (l : List ℕ). Holds (taken .queue) (takenAt place l)) (queue-at v b is dq) (take .queue-is))) in
-          meets v (answerSlot (afterPick (abs s) core (pick.Some (record { slot = e; band = b }))))
-          (ap answerSlot (P-below (abs s) core below ∙ ap (afterPick (abs s) core) first)) (back .whole)
-          (a-is ∙ ap (chosenAnswer e) of-band)
+          let comes : ruleP core (abs s) ≡ runs = P-below (abs s) core below ∙ ap (afterPick (abs s) core) first in
+          gives-as f refl (sym comes) (gives-chosen f previous runs (getD (s .tasks) (e .0) d .cr3) (subst (λ (c : Chosen). Accepted (c .state)) comes (P-accepted core (v .accepted)))
+          (ap (λ (r : TaskControlBlock). r .cr3) read-so ∙ ap (λ (r : TaskControlBlock). r .cr3) (sym stored)) (back .whole)
+          (a-is ∙ (λ i. answered (pick.Some (record { slot = e; band = of-band i })) (x-is i)))
           (λ i. record {
             tasks = set (s .tasks) (e .0) ((u-is ∙ ap picked read-so) i);
             queues = back .entries-are i;
             holders = set (s .current) core (e .0);
             micros = s .«system_ticks_us»;
-          })
+          }))
 
--- ---- schedule
-
+-- nobody may use the core
 module _ {s : QoSScheduler} (v : Valid s) {core : ℕ} where
+  pub pick-none : (f : Form) (previous : SlotOption) {band place : ℕ} {a : Answer} {x : Value} → core < 64 → Seeking (abs s) core band place → 3 ≤ band →
+      x ≡ whoRuns f previous slot.None 0 → a ≡ answered pick.None x →
+      Gives (answerIn f previous (ruleP core (abs s))) (leaving s a (s .tasks) (s .queues) (set (s .current) core noneByte))
+  unfolding abs
+  pick-none f previous below k past x-is a-is =
+      let comes : ruleP core (abs s) ≡ afterPick (abs s) core pick.None = P-below (abs s) core below ∙ ap (afterPick (abs s) core) (none-chosen (abs s) core k past) in
+      gives-as f refl (sym comes) (gives-chosen f previous (afterPick (abs s) core pick.None) 0
+      (subst (λ (c : Chosen). Accepted (c .state)) comes (P-accepted core (v .accepted))) tt (v .whole) (a-is ∙ ap (answered pick.None) x-is) refl)
+
+  -- ---- schedule
+
   pub schedule-past : {r : Reply} → 64 ≤ core → r ≡ toldBy s (value.Slot slot.None) → Meets (Schedule core) s r
   unfolding schedule
   schedule-past past is = meets-told v (value.Slot slot.None) is (ap answerSlot (P-past (abs s) core past))
 
-  pub schedule-none : {band place : ℕ} {r : Reply} → core < 64 → Seeking (abs s) core band place → 3 ≤ band →
-      r ≡ toldBy (record { tasks = s .tasks; queues = s .queues; current = set (s .current) core noneByte; «system_ticks_us» = s .«system_ticks_us» }) (value.Slot slot.None) →
-      Meets (Schedule core) s r
-  unfolding schedule abs
-  schedule-none below k past is =
-      subst (Meets (Schedule core) s) (sym is)
-      (meets v (answerSlot (afterPick (abs s) core pick.None))
-      (ap answerSlot (P-below (abs s) core below ∙ ap (afterPick (abs s) core) (none-chosen (abs s) core k past))) (v .whole) refl refl)
+  pub schedule-picks : {r : Reply} → Gives (answerSlot (ruleP core (abs s))) r → Meets (Schedule core) s r
+  unfolding schedule
+  schedule-picks g = meets-given g refl
 
 -- ---- the tick's test
 

@@ -1,13 +1,13 @@
--- The tick meets its contract: a law for each way out of the code, and for each state that it hands on to a pick. Assumes nothing.
+-- Tick and plan meet their contract: a law for each way out of the code, and for each state that it hands on to a pick. Assumes nothing.
 use mathlib.Core.Path.{_≡_, refl, sym, ap, _∙_, subst}
 use mathlib.Core.Bool.{Bool, true, false, cond, or-true}
 use mathlib.Core.List.{List}
 use mathlib.Core.Logic.{_⊎_, ⊎-elim}
 use Prim.Native.Nat.{ℕ, _+_, _%_, _^_, _≤_, _<_}
 use native.Mathlib.Omega.{arith}
-use borrow.Author.Tests.{le-leb, lt-leb}
+use borrow.Author.Tests.{le-leb, lt-leb, leb-true}
 use lib.Dec.{leb}
-use lib.ListN.{length, getD, set}
+use lib.ListN.{length, getD, set, List·getD-eq-default}
 use lib.Seq.{getD-set-same, set-set}
 use Rattle.records.specs.declared.ids.Slot.{Slot}
 use Rattle.records.specs.declared.ids.SlotOption.{SlotOption}
@@ -17,27 +17,33 @@ use Rattle.records.specs.declared.task.TaskControlBlock.{TaskControlBlock}
 use Rattle.records.specs.Band.{IsBandCode}
 use Rattle.records.specs.State.{isState}
 use Rattle.records.specs.Task.{emptyRecord, withState, withConsumed}
+use Rattle.records.proofs.Cases.{split}
 use Rattle.queue.specs.declared.BandQueue.{BandQueue}
 use Rattle.queue.specs.declared.Pushed.{Pushed}
 use Rattle.queue.specs.Answers.{Push}
 use Rattle.queue.specs.Rules.{pushed}
 use Rattle.scheduler.specs.declared.answer.Answer.{Answer}
 use Rattle.scheduler.specs.declared.answer.PickOption.the-variants as pick
+use Rattle.scheduler.specs.declared.answer.PlanOption.the-variants as plan
+use Rattle.scheduler.specs.declared.answer.Value.{Value}
 use Rattle.scheduler.specs.declared.answer.Value.the-variants as value
-use Rattle.scheduler.specs.declared.call.Call.the-variants.{Schedule, Tick}
+use Rattle.scheduler.specs.declared.call.Call.the-variants.{Tick, Plan}
+use Rattle.scheduler.specs.declared.picking.Form.{Form}
+use Rattle.scheduler.specs.declared.picking.Form.the-variants as form
 use Rattle.scheduler.specs.declared.scheduler.QoSScheduler.{QoSScheduler}
 use Rattle.scheduler.specs.declared.scheduler.Reply.{Reply}
-use Rattle.scheduler.specs.State.{State, task, queue, holderIn, withTask, withBand, withQueue}
+use Rattle.scheduler.specs.State.{State, noneByte, task, queue, holderIn, holderOf, withTask, withBand, withQueue}
 use Rattle.scheduler.specs.Accepted.{Accepted}
-use Rattle.scheduler.specs.Outcome.{answered}
-use Rattle.scheduler.specs.Picking.{ruleP, answerSlot, schedule}
-use Rattle.scheduler.specs.Ticking.{gain, waitsBefore, sliceOver, requeued, staysHolder, ticked, tick}
+use Rattle.scheduler.specs.Outcome.{Chosen, answered, done}
+use Rattle.scheduler.specs.Picking.{noChoice, ruleP}
+use Rattle.scheduler.specs.Ticking.{gain, waitsBefore, sliceOver, requeued, staysHolder, ticked, tick, answerPlan, planned}
 use Rattle.scheduler.specs.Took.{outOfSlice}
-use Rattle.scheduler.specs.Scheduler.{queuesOf, abs, Whole, Valid, Meets, Hold, toldBy}
+use Rattle.scheduler.specs.Scheduler.{queuesOf, abs, Whole, Valid, Meets, Gives, answerIn, whoRuns, Hold, toldBy}
+use Rattle.scheduler.proofs.Calls.{call-accepted}
 use Rattle.scheduler.proofs.Effects.{slice-ends}
 use Rattle.scheduler.proofs.Holders.{harmless-accepted, known, held, holder-may, holder-below, let-go, let-go-is}
 use Rattle.scheduler.proofs.Moves.{Harmless, time}
-use Rattle.scheduler.proofs.Promises.{meets, meets-told, meets-as}
+use Rattle.scheduler.proofs.Promises.{meets-given, gives-chosen, gives-as}
 use Rattle.scheduler.proofs.Stored.{record-at, pushed-back}
 
 -- ---- the end of a slice, where the record is stored once
@@ -58,11 +64,41 @@ module _ (s : State) (i : ℕ) (there : i < length (s .tasks)) where
     micros = s .micros;
   }) (set-set (s .tasks) i (withConsumed (task s i) 0) (withState (withConsumed (task s i) 0) Ready))))
 
+-- ---- what the tick promises, told in a form
+
+abbrev pub Ticks : Form → QoSScheduler → ℕ → ℕ → Reply → Type 0
+Ticks f s core elapsed r = Gives (answerIn f (holderOf (abs s) core) (ticked core elapsed (abs s))) r
+
+ticked-accepted : {s : State} (core elapsed : ℕ) → Accepted s → Accepted (ticked core elapsed s .state)
+unfolding tick
+ticked-accepted {s} core elapsed ok = call-accepted (Tick core elapsed) s ok
+
+-- told as a slot it is tick
+pub tick-told : (s : QoSScheduler) (core elapsed : ℕ) {r : Reply} → Ticks form.Slot s core elapsed r → Meets (Tick core elapsed) s r
+unfolding tick
+tick-told s core elapsed g = meets-given g refl
+
 -- ---- a core of 64 and above
 
-pub tick-past : {s : QoSScheduler} → Valid s → {core elapsed : ℕ} {r : Reply} → 64 ≤ core → r ≡ toldBy s (value.Slot slot.None) → Meets (Tick core elapsed) s r
-unfolding tick ticked
-tick-past v {core} past is = meets-told v (value.Slot slot.None) is (rw (le-leb 64 core past) refl)
+module _ {s : QoSScheduler} (v : Valid s) (core elapsed : ℕ) where
+  ticked-past : 64 ≤ core → ticked core elapsed (abs s) ≡ noChoice (abs s)
+  unfolding ticked
+  ticked-past past = rw (le-leb 64 core past) refl
+
+  -- it has no holder
+  none-held : 64 ≤ core → holderOf (abs s) core ≡ slot.None
+  none-held past = ap holderIn (List·getD-eq-default (abs s .holders) noneByte (omega (arith, v .accepted .cores)))
+
+  pub tick-past : (f : Form) {r : Reply} {x : Value} → 64 ≤ core → x ≡ whoRuns f slot.None slot.None 0 → r ≡ toldBy s x → Ticks f s core elapsed r
+  tick-past f past x-is is = gives-as f (sym (none-held past)) (sym (ticked-past past))
+      (subst (Gives (answerIn f slot.None (noChoice (abs s)))) (sym is) (gives-chosen f slot.None (noChoice (abs s)) 0 (v .accepted) tt (v .whole) (ap (answered pick.None) x-is) refl))
+
+  -- told as a plan the tick is plan
+  pub plan-told : {r : Reply} → Ticks form.Plan s core elapsed r → Meets (Plan core elapsed) s r
+  unfolding planned
+  plan-told g = meets-given g (split (λ (b : Bool). leb 64 core ≡ b → cond b (done (value.Plan plan.None) (abs s)) (answerPlan (holderOf (abs s) core) (ticked core elapsed (abs s)))
+      ≡ answerPlan (holderOf (abs s) core) (ticked core elapsed (abs s))) (leb 64 core)
+      (λ _ past. rw (none-held (leb-true 64 core past)) (rw (ticked-past (leb-true 64 core past)) refl)) (λ _ _. refl) refl)
 
 -- ---- a core below 64: time goes by first
 
@@ -85,9 +121,16 @@ module _ {s : QoSScheduler} (v : Valid s) {core micros : ℕ} (elapsed : ℕ) (l
   later-valid = record { whole = v .whole; accepted = subst Accepted (sym later-is) (harmless-accepted gone-by) }
 
   module _ (d : ℕ) {o : SlotOption} (read-holder : o ≡ holderIn (getD (s .current) core d)) where
-    pub tick-none : {r : Reply} → o ≡ slot.None → Meets (Schedule core) later r → Meets (Tick core elapsed) s r
-    unfolding tick ticked schedule
-    tick-none none m = meets-as m (rw (lt-leb 64 core low) (rw (held v low d read-holder ∙ none) (rw later-is refl)))
+    -- a pick from m, told from the holder that the core had
+    abbrev Picks : Form → SlotOption → QoSScheduler → Reply → Type 0
+    Picks f p m r = Gives (answerIn f p (ruleP core (abs m))) r
+
+    comes-from : (f : Form) {p : SlotOption} (m : QoSScheduler) {r : Reply} → o ≡ p → ruleP core (abs m) ≡ ticked core elapsed (abs s) → Picks f p m r → Ticks f s core elapsed r
+    comes-from f m p-is is g = gives-as f (sym (held v low d read-holder ∙ p-is)) is g
+
+    pub tick-none : (f : Form) {r : Reply} → o ≡ slot.None → Picks f o later r → Ticks f s core elapsed r
+    unfolding ticked
+    tick-none f none g = comes-from f later refl (rw (lt-leb 64 core low) (rw (held v low d read-holder ∙ none) (rw later-is refl))) g
 
     module _ (h : Slot) (some : o ≡ slot.Some h) (dt : TaskControlBlock) where
       abbrev read : TaskControlBlock
@@ -97,9 +140,10 @@ module _ {s : QoSScheduler} (v : Valid s) {core micros : ℕ} (elapsed : ℕ) (l
       read-is = record-at s v (h .0) dt (holder-below v low d read-holder some)
 
       -- the holder is Blocked: the core lets go of it
-      pub tick-blocked : {r : Reply} → isState (read .state) Blocked ≡ true → Meets (Schedule core) (let-go later core) r → Meets (Tick core elapsed) s r
-      unfolding tick ticked schedule
-      tick-blocked so m = meets-as m (rw (lt-leb 64 core low) (rw (held v low d read-holder ∙ some) (rw (sym read-is) (rw so (rw (let-go-is later core) (rw later-is refl))))))
+      pub tick-blocked : (f : Form) {r : Reply} → isState (read .state) Blocked ≡ true → Picks f (slot.Some h) (let-go later core) r → Ticks f s core elapsed r
+      unfolding ticked
+      tick-blocked f so g =
+          comes-from f (let-go later core) some (rw (lt-leb 64 core low) (rw (held v low d read-holder ∙ some) (rw (sym read-is) (rw so (rw (let-go-is later core) (rw later-is refl)))))) g
 
       module _ (so : isState (read .state) Blocked ≡ false) where
         awake : isState (task (abs s) (h .0) .state) Blocked ≡ false
@@ -107,8 +151,8 @@ module _ {s : QoSScheduler} (v : Valid s) {core micros : ℕ} (elapsed : ℕ) (l
 
         -- what the tick comes to, by its test
         comes-to : (b : Bool) → sliceOver (h .0) elapsed core now ≡ b →
-            tick core elapsed (abs s) ≡ answerSlot (cond b (ruleP core (requeued (h .0) now)) (staysHolder h elapsed now))
-        unfolding tick ticked
+            ticked core elapsed (abs s) ≡ cond b (ruleP core (requeued (h .0) now)) (staysHolder h elapsed now)
+        unfolding ticked
         comes-to b test = rw (lt-leb 64 core low) (rw (held v low d read-holder ∙ some) (rw awake (rw test refl)))
 
         -- the test, on what was read
@@ -129,15 +173,21 @@ module _ {s : QoSScheduler} (v : Valid s) {core micros : ℕ} (elapsed : ℕ) (l
         charge t = withConsumed t (t .«consumed_slice_us» + elapsed)
 
         -- the slice goes on
-        pub tick-stays : {a : Answer} {u : TaskControlBlock} → read .«consumed_slice_us» + elapsed < read .«slice_budget_us» →
+        pub tick-stays : (f : Form) {a : Answer} {u : TaskControlBlock} {x : Value} → read .«consumed_slice_us» + elapsed < read .«slice_budget_us» →
             waitsBefore (read .qos) (abs later) core ≡ false → u ≡ charge read →
-            a ≡ answered pick.None (value.Slot (slot.Some h)) →
-            Meets (Tick core elapsed) s (record { answer = a; state = record { tasks = set (s .tasks) (h .0) u; queues = s .queues; current = s .current; «system_ticks_us» = micros } })
+            x ≡ whoRuns f (slot.Some h) (slot.Some h) (read .cr3) →
+            a ≡ answered pick.None x →
+            Ticks f s core elapsed (record { answer = a; state = record { tasks = set (s .tasks) (h .0) u; queues = s .queues; current = s .current; «system_ticks_us» = micros } })
         unfolding abs
-        tick-stays short nobody u-is a-is =
-            let over : sliceOver (h .0) elapsed core now ≡ false = goes-on short nobody in
-            meets v (answerSlot (staysHolder h elapsed now)) (comes-to false over) (v .whole) a-is
-            (λ i. record { tasks = set (s .tasks) (h .0) ((u-is ∙ ap charge read-is) i); queues = queuesOf (s .queues); holders = s .current; micros = gained i })
+        tick-stays f short nobody u-is x-is a-is =
+            let comes : ticked core elapsed (abs s) ≡ staysHolder h elapsed now = comes-to false (goes-on short nobody) in
+            let stored : task (staysHolder h elapsed now .state) (h .0) ≡ charge (task (abs s) (h .0)) =
+            getD-set-same (s .tasks) (h .0) (charge (task (abs s) (h .0))) emptyRecord (omega (arith, holder-below v low d read-holder some, v .accepted .slots)) in
+            gives-as f (sym (held v low d read-holder ∙ some)) (sym comes) (gives-chosen f (slot.Some h) (staysHolder h elapsed now) (read .cr3)
+            (subst (λ (c : Chosen). Accepted (c .state)) comes (ticked-accepted core elapsed (v .accepted)))
+            (ap (λ (t : TaskControlBlock). t .cr3) read-is ∙ ap (λ (t : TaskControlBlock). t .cr3) (sym stored)) (v .whole)
+            (a-is ∙ ap (answered pick.None) x-is)
+            (λ i. record { tasks = set (s .tasks) (h .0) ((u-is ∙ ap charge read-is) i); queues = queuesOf (s .queues); holders = s .current; micros = gained i }))
 
         -- the slice is over: an earlier band's entry waits, or the budget is reached
         module _ (why : (waitsBefore (read .qos) (abs later) core ≡ true) ⊎ (read .«slice_budget_us» ≤ read .«consumed_slice_us» + elapsed)) where
@@ -154,9 +204,8 @@ module _ {s : QoSScheduler} (v : Valid s) {core micros : ℕ} (elapsed : ℕ) (l
           ended-valid : {m : QoSScheduler} → Whole (m .queues) → abs m ≡ outOfSlice (h .0) now → Valid m
           ended-valid w is = record { whole = w; accepted = subst Accepted (sym is) (harmless-accepted (ends .0)) }
 
-          ended : {m : QoSScheduler} {r : Reply} → abs m ≡ outOfSlice (h .0) now → Meets (Schedule core) m r → Meets (Tick core elapsed) s r
-          unfolding schedule
-          ended is m = meets-as m (comes-to true over ∙ ap (λ (t : State). answerSlot (ruleP core t)) (ends .1 ∙ sym is))
+          ended : (f : Form) (m : QoSScheduler) {r : Reply} → abs m ≡ outOfSlice (h .0) now → Picks f (slot.Some h) m r → Ticks f s core elapsed r
+          ended f m is g = comes-from f m some (sym (comes-to true over ∙ ap (ruleP core) (ends .1 ∙ sym is))) g
 
           -- a Ready holder waits already
           module _ (waits : isState (read .state) Ready ≡ true) {u : TaskControlBlock} (u-is : u ≡ withConsumed read 0) where
@@ -178,8 +227,8 @@ module _ {s : QoSScheduler} (v : Valid s) {core micros : ℕ} (elapsed : ℕ) (l
             pub spared-valid : Valid spared
             spared-valid = ended-valid (v .whole) spared-is
 
-            pub tick-waits : {r : Reply} → Meets (Schedule core) spared r → Meets (Tick core elapsed) s r
-            tick-waits m = ended spared-is m
+            pub tick-waits : (f : Form) {r : Reply} → Picks f (slot.Some h) spared r → Ticks f s core elapsed r
+            tick-waits f g = ended f spared spared-is g
 
           -- any other goes to the tail of its band
           module _ (runs : isState (read .state) Ready ≡ false) {n : ℕ} (code : IsBandCode (read .qos) n) (dq : BandQueue) {p : Pushed}
@@ -204,5 +253,5 @@ module _ {s : QoSScheduler} (v : Valid s) {core micros : ℕ} (elapsed : ℕ) (l
             pub sent-back-valid : Valid sent-back
             sent-back-valid = ended-valid (back .whole) sent-back-is
 
-            pub tick-over : {r : Reply} → Meets (Schedule core) sent-back r → Meets (Tick core elapsed) s r
-            tick-over m = ended sent-back-is m
+            pub tick-over : (f : Form) {r : Reply} → Picks f (slot.Some h) sent-back r → Ticks f s core elapsed r
+            tick-over f g = ended f sent-back sent-back-is g

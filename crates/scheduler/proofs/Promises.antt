@@ -1,22 +1,33 @@
--- What a call promises, from what it did: any call, one that is refused or changes nothing, and one that ends as another does. Assumes nothing.
+-- What a call promises, from what it did: any call, one that is refused or changes nothing, and one that ends as another does; and what a pick
+-- promises, told as a slot or as a plan. Assumes nothing.
 use mathlib.Core.Path.{_≡_, refl, sym, ap, _∙_, subst}
+use mathlib.Core.Bool.{cond}
 use mathlib.Core.List.{List}
 use Prim.Native.Nat.{ℕ}
 use lib.ListN.{set}
 use Rattle.records.specs.declared.error.SchedError.{SchedError}
+use Rattle.records.specs.declared.ids.SlotOption.{SlotOption}
+use Rattle.records.specs.declared.ids.SlotOption.the-variants as slot
 use Rattle.records.specs.declared.task.TaskControlBlock.{TaskControlBlock}
 use Rattle.queue.specs.declared.BandQueue.{BandQueue}
 use Rattle.scheduler.specs.declared.answer.Answer.{Answer}
+use Rattle.scheduler.specs.declared.answer.ContextSwitchTarget.{ContextSwitchTarget}
+use Rattle.scheduler.specs.declared.answer.ContextSwitchTarget.the-variants.{Task}
 use Rattle.scheduler.specs.declared.answer.PickOption.the-variants as pick
+use Rattle.scheduler.specs.declared.answer.PlanOption.the-variants as plan
 use Rattle.scheduler.specs.declared.answer.Value.{Value}
+use Rattle.scheduler.specs.declared.answer.Value.the-variants as value
 use Rattle.scheduler.specs.declared.call.Call.{Call}
+use Rattle.scheduler.specs.declared.picking.Form.{Form}
+use Rattle.scheduler.specs.declared.picking.Form.the-variants as form
 use Rattle.scheduler.specs.declared.scheduler.QoSScheduler.{QoSScheduler}
 use Rattle.scheduler.specs.declared.scheduler.Reply.{Reply}
-use Rattle.scheduler.specs.State.{Queues}
+use Rattle.scheduler.specs.State.{State, Queues, task}
 use Rattle.scheduler.specs.Accepted.{Accepted}
-use Rattle.scheduler.specs.Outcome.{Outcome, answered, done, refused}
+use Rattle.scheduler.specs.Outcome.{Outcome, Chosen, answered, done, refused}
+use Rattle.scheduler.specs.Ticking.{targetOf, same}
 use Rattle.scheduler.specs.Step.{step}
-use Rattle.scheduler.specs.Scheduler.{queuesOf, abs, Whole, Valid, Meets, toldBy, refusedBy, Hold}
+use Rattle.scheduler.specs.Scheduler.{queuesOf, abs, Whole, Valid, Meets, toldBy, refusedBy, Gives, answerIn, targetWith, whoRuns, Hold}
 use Rattle.scheduler.proofs.Calls.{call-accepted}
 
 -- a reply with these arrays, and the time as it was
@@ -62,6 +73,14 @@ meets-as m by = record {
   state-is = m .state-is ∙ ap (λ (p : Outcome). p .state) (sym by);
 }
 
+-- what was given is what the rules make of the call
+pub meets-given : {call : Call} {s : QoSScheduler} {o : Outcome} {r : Reply} → Gives o r → step call (abs s) ≡ o → Meets call s r
+meets-given g by = record {
+  valid = g .valid;
+  answer-is = g .answer-is ∙ ap (λ (p : Outcome). p .answer) (sym by);
+  state-is = g .state-is ∙ ap (λ (p : Outcome). p .state) (sym by);
+}
+
 -- of the scheduler that the call found, by the name that it was given first
 pub meets-from : {call : Call} {s t : QoSScheduler} {r : Reply} → s ≡ t → Meets call s r → Meets call t r
 meets-from {call} {r = r} same m = subst (λ (u : QoSScheduler). Meets call u r) same m
@@ -74,3 +93,30 @@ meets-call {s = s} {r = r} is m = subst (λ (c : Call). Meets c s r) (sym is) m
 pub meets-query : {call other : Call} {s : QoSScheduler} {r : Reply} {x y : Value} → Valid s → call ≡ other → r ≡ toldBy s x → x ≡ y →
     step other (abs s) ≡ done y (abs s) → Meets call s r
 meets-query {s = s} {x = x} v is told value-is by = meets-call is (meets-told v x told (by ∙ ap (λ (w : Value). done w (abs s)) (sym value-is)))
+
+-- ---- who is to run, told in a form
+
+-- the cr3 of the task that is to run, if any is
+abbrev pub Cr3Of : SlotOption → State → ℕ → Type 0
+Cr3Of slot.None s cr3 = Unit
+Cr3Of (slot.Some n) s cr3 = cr3 ≡ task s (n .0) .cr3
+
+target-known : (next : SlotOption) (s : State) (cr3 : ℕ) → Cr3Of next s cr3 → targetWith next cr3 ≡ targetOf next s
+target-known slot.None s cr3 is = refl
+target-known (slot.Some n) s cr3 is = ap (Task n) is
+
+pub gives-chosen : (f : Form) (previous : SlotOption) (c : Chosen) {r : Reply} (cr3 : ℕ) → Accepted (c .state) → Cr3Of (c .next) (c .state) cr3 →
+    Whole (r .state .queues) → r .answer ≡ answered (c .pick) (whoRuns f previous (c .next) cr3) → abs (r .state) ≡ c .state → Gives (answerIn f previous c) r
+gives-chosen form.Slot previous c cr3 ok is w answer state =
+    record { valid = record { whole = w; accepted = subst Accepted (sym state) ok }; answer-is = answer; state-is = state }
+gives-chosen form.Plan previous c cr3 ok is w answer state = record {
+  valid = record { whole = w; accepted = subst Accepted (sym state) ok };
+  answer-is = answer ∙ ap
+      (λ (t : ContextSwitchTarget). answered (c .pick) (value.Plan (cond (same previous (c .next)) plan.None (plan.Some (record { «prev_task_idx» = previous; target = t })))))
+      (target-known (c .next) (c .state) cr3 is);
+  state-is = state;
+}
+
+-- the same choice, by another way to it
+pub gives-as : (f : Form) {p q : SlotOption} {c d : Chosen} {r : Reply} → p ≡ q → c ≡ d → Gives (answerIn f p c) r → Gives (answerIn f q d) r
+gives-as f {r = r} p-is c-is g = subst (λ (o : Outcome). Gives o r) (λ i. answerIn f (p-is i) (c-is i)) g

@@ -1,10 +1,7 @@
 -- What a call makes of a state: an answer and a state. Document 01, "Picking": "Each answer also carries the pick made [..], or none"; the
 -- table of refusals: "A refusal changes no state"; "Call frames": "Refused: no value."
-use Rattle.records.specs.declared.band.QoSClass.{QoSClass}
 use Rattle.records.specs.declared.error.SchedError.{SchedError}
-use Rattle.records.specs.declared.ids.Slot.{Slot}
 use Rattle.records.specs.declared.ids.SlotOption.{SlotOption}
-use Rattle.records.specs.declared.ids.SlotOption.the-variants as slot
 use Rattle.scheduler.specs.declared.answer.Answer.{Answer}
 use Rattle.scheduler.specs.declared.answer.PickOption.{PickOption}
 use Rattle.scheduler.specs.declared.answer.PickOption.the-variants as pick
@@ -21,10 +18,6 @@ pub record Outcome : Type 0 where
 -- done, with the pick made and a value
 abbrev pub answered : PickOption → Value → Answer
 answered p v = record { status = Done; pick = p; value = v }
-
--- done, and the slot that was picked is who is to run
-abbrev pub chosenAnswer : Slot → QoSClass → Answer
-chosenAnswer e band = answered (pick.Some (record { slot = e; band = band })) (value.Slot (slot.Some e))
 
 -- done, and nobody was picked
 abbrev pub done : Value → State → Outcome

@@ -1,10 +1,12 @@
 -- The stored scheduler: what it holds, which ones are valid, and what every call promises of it.
 use mathlib.Core.Path.{_≡_}
+use mathlib.Core.Bool.{cond}
 use mathlib.Core.List.{List, [], map}
 use lib.ListN.{length, getD}
 use Prim.Native.Nat.{ℕ}
 use Rattle.records.specs.declared.error.SchedError.{SchedError}
 use Rattle.records.specs.declared.ids.SlotOption.{SlotOption}
+use Rattle.records.specs.declared.ids.SlotOption.the-variants as slot
 use Rattle.queue.specs.declared.BandQueue.{BandQueue}
 use Rattle.queue.specs.Stored.{entries, WellFormed}
 use Rattle.scheduler.specs.declared.answer.Answer.{Answer}
@@ -12,14 +14,18 @@ use Rattle.scheduler.specs.declared.call.Call.{Call}
 use Rattle.scheduler.specs.declared.scheduler.QoSScheduler.{QoSScheduler}
 use Rattle.scheduler.specs.declared.scheduler.Reply.{Reply}
 use Rattle.scheduler.specs.declared.answer.ContextSwitchTarget.{ContextSwitchTarget}
+use Rattle.scheduler.specs.declared.answer.ContextSwitchTarget.the-variants.{Task, Idle}
 use Rattle.scheduler.specs.declared.answer.PickOption.the-variants as pick
 use Rattle.scheduler.specs.declared.answer.PlanOption.the-variants as plan
 use Rattle.scheduler.specs.declared.answer.Value.{Value}
 use Rattle.scheduler.specs.declared.answer.Value.the-variants as value
-use Rattle.scheduler.specs.State.{State, Queues, newState, holderOf}
-use Rattle.scheduler.specs.Outcome.{answered, refusal}
+use Rattle.scheduler.specs.declared.picking.Form.{Form}
+use Rattle.scheduler.specs.declared.picking.Form.the-variants as form
+use Rattle.scheduler.specs.State.{State, Queues, newState}
+use Rattle.scheduler.specs.Outcome.{Outcome, Chosen, answered, refusal}
 use Rattle.scheduler.specs.Accepted.{Accepted, Each}
-use Rattle.scheduler.specs.Ticking.{planOf}
+use Rattle.scheduler.specs.Picking.{answerSlot}
+use Rattle.scheduler.specs.Ticking.{same, answerPlan}
 use Rattle.scheduler.specs.Step.{step}
 
 -- "three queues, one a band, held together as one array": a band's queue stands at the band's code
@@ -69,16 +75,30 @@ toldBy s v = record { answer = answered pick.None v; state = s }
 abbrev pub refusedBy : QoSScheduler → SchedError → Reply
 refusedBy s e = record { answer = refusal e; state = s }
 
+-- a valid scheduler again, the whole answer and the whole end state as in this outcome of the rules
+pub record Gives (o : Outcome) (r : Reply) : Type 0 where
+  pub valid : Valid (r .state)
+  pub answer-is : r .answer ≡ o .answer
+  pub state-is : abs (r .state) ≡ o .state
+
 -- a plan to switch, as an answer's value
 abbrev pub switchTo : SlotOption → ContextSwitchTarget → Value
 switchTo previous target = value.Plan (plan.Some (record { «prev_task_idx» = previous; target = target }))
 
--- a reply told as a plan, from the previous holder to the one that the core has now
-abbrev pub planFrom : SlotOption → ℕ → Reply → Reply
-planFrom previous core r = record {
-  answer = answered (r .answer .pick) (value.Plan (planOf previous (holderOf (abs (r .state)) core) (abs (r .state))));
-  state = r .state;
-}
+-- who is to run, told as the slot, or as a plan from the previous holder
+abbrev pub answerIn : Form → SlotOption → Chosen → Outcome
+answerIn form.Slot previous c = answerSlot c
+answerIn form.Plan previous c = answerPlan previous c
+
+-- the same as a value, where the cr3 of the task that is to run is known
+abbrev pub targetWith : SlotOption → ℕ → ContextSwitchTarget
+targetWith slot.None cr3 = Idle
+targetWith (slot.Some n) cr3 = Task n cr3
+
+abbrev pub whoRuns : Form → SlotOption → SlotOption → ℕ → Value
+whoRuns form.Slot previous next cr3 = value.Slot next
+whoRuns form.Plan previous next cr3 =
+    value.Plan (cond (same previous next) plan.None (plan.Some (record { «prev_task_idx» = previous; target = targetWith next cr3 })))
 
 -- a whole array of queues with these entries
 pub record Hold (qs : List BandQueue) (q : Queues) : Type 0 where

@@ -1,6 +1,6 @@
 // What a call answers: a status, the pick that was made, and a value.
 ghost use mathlib.Core.Path.{_≡_};
-ghost use Rattle.scheduler.specs.Outcome.{answered, chosenAnswer, refusal};
+ghost use Rattle.scheduler.specs.Outcome.{answered, refusal};
 use records::QoSClass;
 use records::SchedError;
 use records::Slot;
@@ -24,16 +24,6 @@ impl Answer {
             pick,
             value,
         }
-    }
-
-    // Done: the slot that was picked is who is to run.
-    pub(crate) fn chosen(slot: Slot, band: QoSClass) -> Self
-        ensures { λ r. ⌜ r ≡ chosenAnswer slot band ⌝ }
-    {
-        Answer::done(
-            PickOption::Some(Pick { slot, band }),
-            Value::Slot(SlotOption::Some(slot)),
-        )
     }
 
     // Refused: no pick and no value.

@@ -6,6 +6,7 @@ use crate::answer::Answer;
 use crate::answer::PickOption;
 use crate::answer::Value;
 use crate::call::Call;
+use crate::picking::Form;
 use queue::BandQueue;
 use records::BAND_COUNT;
 use records::MAX_CPUS;
@@ -67,10 +68,10 @@ impl QoSScheduler {
             Call::Wake(slot) => self.wake_task(slot),
             Call::Enqueue(slot) => self.enqueue_ready(slot),
             Call::Schedule(core) => self.schedule_on_cpu(core),
-            Call::Tick { core, elapsed_us } => self.on_timer_tick_on_cpu(core, elapsed_us),
+            Call::Tick { core, elapsed_us } => self.ticked(core, elapsed_us, Form::Slot),
             Call::Yield(core) => self.plan_voluntary_yield_on_cpu(core),
             Call::Handoff(core) => self.plan_blocked_current_handoff_on_cpu(core),
-            Call::Plan { core, elapsed_us } => self.plan_context_switch_on_cpu(core, elapsed_us),
+            Call::Plan { core, elapsed_us } => self.ticked(core, elapsed_us, Form::Plan),
             Call::CanRunOnCore { slot, core } => self.told(Value::Flag(self.can_run_on_core(
                 slot,
                 core,

@@ -1,6 +1,7 @@
 -- `QoSScheduler::apply` meets its contract: each arm gives what the method for the call ensures, or tells what the query ensures. Assumes nothing.
 use mathlib.Core.Path.{refl, ap}
 use Rattle.scheduler.specs.declared.answer.Value.the-variants as value
+use Rattle.scheduler.proofs.OnTicks.{tick-told, plan-told}
 use Rattle.scheduler.proofs.Promises.{meets-call, meets-query}
 use borrow.Author.Needs.{needs}
 use Rattle.scheduler.proofs.scheduler.QoSScheduler.apply.Statement.{statement}
@@ -28,7 +29,7 @@ returns-7 : tie.Need-returns-7
 returns-7 c = meets-call (c .before .before .call7 .given .1) (c .schedule-on-cpu .ensures)
 
 returns-8 : tie.Need-returns-8
-returns-8 c = meets-call (c .before .before .call8 .given .1) (c .on-timer-tick-on-cpu .ensures)
+returns-8 c = meets-call (c .before .before .call8 .given .1) (tick-told _ _ _ (c .ticked .ensures))
 
 returns-9 : tie.Need-returns-9
 returns-9 c = meets-call (c .before .before .call9 .given .1) (c .plan-voluntary-yield-on-cpu .ensures)
@@ -37,7 +38,7 @@ returns-10 : tie.Need-returns-10
 returns-10 c = meets-call (c .before .before .call10 .given .1) (c .plan-blocked-current-handoff-on-cpu .ensures)
 
 returns-11 : tie.Need-returns-11
-returns-11 c = meets-call (c .before .before .call11 .given .1) (c .plan-context-switch-on-cpu .ensures)
+returns-11 c = meets-call (c .before .before .call11 .given .1) (plan-told (search needs) _ _ (c .ticked2 .ensures))
 
 returns-12 : tie.Need-returns-12
 returns-12 c = meets-query (search needs) (c .before .before .before .call12 .given .1) (c .told .ensures) (ap value.Flag (c .before .can-run-on-core .ensures)) refl

@@ -27,10 +27,10 @@ element-copy-out-task c =
     holder-below (c .before .before .before .before .before .before .pre) (c .before .before .before .before .before .if1 .left) _
     (c .before .before .before .holder-of .ensures) (c .before .previous .given .1)
 
-schedule-on-cpu-requires : tie.Need-schedule-on-cpu-requires
-schedule-on-cpu-requires c κs =
+pick-requires : tie.Need-pick-requires
+pick-requires c κs =
     let at-if1 = c .before .before .before .before .before .before .before .before in
-    let-go-valid (at-if1 .before .pre) (at-if1 .if1 .left)
+    (let-go-valid (at-if1 .before .pre) (at-if1 .if1 .left), at-if1 .if1 .left)
 
 returns-3 : tie.Need-returns-3
 returns-3 c =
@@ -40,10 +40,9 @@ returns-3 c =
 
 returns-4 : tie.Need-returns-4
 returns-4 c =
-    let at-holder-of = c .before .before .before .before .before .before .before .before in
+    let at-holder-of = c .before .before .before .before .before .before .before in
     handoff-blocked (search needs) (search needs) _ (at-holder-of .holder-of .ensures) _
-    (c .before .before .before .before .before .before .previous .given .1) _ (c .before .before .enum-told3 .given .1)
-    (c .before .schedule-on-cpu .ensures) (c .plan-from .ensures)
+    (c .before .before .before .before .before .previous .given .1) _ (c .before .enum-told3 .given .1) (c .pick .ensures)
 
 returns-5 : tie.Need-returns-5
 returns-5 c =
@@ -75,8 +74,7 @@ plan-blocked-current-handoff-on-cpu-spec =
     (λ c κs. search needs)
     (λ c. search needs)
     (λ c. search needs)
-    schedule-on-cpu-requires
-    (λ c κs. search needs)
+    pick-requires
     (λ c. search needs)
     (λ c κs. search needs)
     (λ c. search needs)

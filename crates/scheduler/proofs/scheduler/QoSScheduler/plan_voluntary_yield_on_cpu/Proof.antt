@@ -14,8 +14,7 @@ returns c = yield-past (search needs) (c .before .if1 .taken) (c .refused .ensur
 
 returns-2 : tie.Need-returns-2
 returns-2 c =
-    yield-none (search needs) (search needs) _ (c .before .before .before .before .holder-of .ensures) (c .before .before .enum-told .given .1)
-    (c .before .schedule-on-cpu .ensures) (c .plan-from .ensures)
+    yield-none (search needs) (search needs) _ (c .before .before .before .holder-of .ensures) (c .before .enum-told .given .1) (c .pick .ensures)
 
 mul-task : tie.Need-mul-task
 mul-task c =
@@ -56,27 +55,24 @@ element-set-from-self c =
     holder-below (at-previous .before .before .before .before .before .pre) (at-previous .before .before .before .before .if1 .left) _
     (at-previous .before .before .holder-of .ensures) (at-previous .previous .given .1)
 
-schedule-on-cpu-requires-2 : tie.Need-schedule-on-cpu-requires-2
-schedule-on-cpu-requires-2 c κs =
-    let at-previous = c .before .before .before .before .before .before .before .before .before in
-    sent-back-valid (at-previous .before .before .before .before .before .pre) (at-previous .before .before .before .before .if1 .left) _
-    (at-previous .before .before .holder-of .ensures) _ (at-previous .previous .given .1) _
-    (sym (c .before .before .before .before .before .before .is .ensures) ∙ not-false _ (c .before .before .before .before .before .if2 .left))
-    (c .before .before .before .before .code .ensures) _ (c .before .before .push .ensures) (c .with-state .ensures)
-
-plan-from-requires-2 : tie.Need-plan-from-requires-2
-plan-from-requires-2 c κs =
-    let at-if1 = c .before .before .before .before .before .before .before .before .before .before .before .before .before .before in
-    (c .schedule-on-cpu2 .ensures .valid, at-if1 .if1 .left)
+pick-requires-2 : tie.Need-pick-requires-2
+pick-requires-2 c κs =
+    let at-previous = c .before .before .before .before .before .before .before .before .before in (
+      sent-back-valid (at-previous .before .before .before .before .before .pre) (at-previous .before .before .before .before .if1 .left) _
+          (at-previous .before .before .holder-of .ensures) _ (at-previous .previous .given .1) _
+          (sym (c .before .before .before .before .before .before .is .ensures) ∙ not-false _ (c .before .before .before .before .before .if2 .left))
+          (c .before .before .before .before .code .ensures) _ (c .before .before .push .ensures) (c .with-state .ensures),
+      at-previous .before .before .before .before .if1 .left,
+    )
 
 returns-4 : tie.Need-returns-4
 returns-4 c =
-    let at-if2 = c .before .before .before .before .before .before .before in
+    let at-if2 = c .before .before .before .before .before .before in
     let at-if1 = at-if2 .before .before .before .before .before .before .before .before in
     yield-running (at-if1 .before .pre) (at-if1 .if1 .left) _ (at-if2 .before .before .before .before .before .before .holder-of .ensures) _
     (at-if2 .before .before .before .before .previous .given .1) _ (sym (at-if2 .before .is .ensures) ∙ not-false _ (at-if2 .if2 .left))
-    (c .before .before .before .before .before .before .code .ensures) _ (c .before .before .before .before .push .ensures)
-    (c .before .before .with-state .ensures) (c .before .schedule-on-cpu2 .ensures) (c .plan-from2 .ensures)
+    (c .before .before .before .before .before .code .ensures) _ (c .before .before .before .push .ensures)
+    (c .before .with-state .ensures) (c .pick2 .ensures)
 
 pub plan-voluntary-yield-on-cpu-spec : {M : Type 1} → statement M
 plan-voluntary-yield-on-cpu-spec =
@@ -88,7 +84,6 @@ plan-voluntary-yield-on-cpu-spec =
     (λ c κs. search needs)
     (λ c. search needs)
     (λ c. search needs)
-    (λ c κs. search needs)
     (λ c κs. search needs)
     returns-2
     mul-task
@@ -107,6 +102,5 @@ plan-voluntary-yield-on-cpu-spec =
     mul-t21
     element-set-from-self
     (λ c. search needs)
-    schedule-on-cpu-requires-2
-    plan-from-requires-2
+    pick-requires-2
     returns-4)

@@ -1,8 +1,8 @@
 -- `same_slot` meets its contract: two slots are the same where their numbers are. Assumes nothing.
 use borrow.Author.Needs.{needs}
 use Rattle.scheduler.proofs.Answers.{same-slots}
-use Rattle.scheduler.proofs.ticking.same_slot.Statement.{statement}
-use Rattle.scheduler.proofs.ticking.same_slot.Tie as tie
+use Rattle.scheduler.proofs.picking.same_slot.Statement.{statement}
+use Rattle.scheduler.proofs.picking.same_slot.Tie as tie
 
 returns-4 : tie.Need-returns-4
 returns-4 c = same-slots (c .before .before .before .before .before .before .one .given .1) (c .before .before .before .other .given .1)
