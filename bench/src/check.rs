@@ -5,7 +5,7 @@ use crate::fields::{self, value_of};
 use crate::frames::{digits_of, Call};
 use crate::lists::List;
 use crate::ours::Ours;
-use crate::step::{Frame, Host};
+use crate::step::{Frame, Host, Step};
 use crate::Wrong;
 
 /// A list with all that is laid out before it is timed, and what `step` answered, which is what the Rust answers.
@@ -35,16 +35,34 @@ impl Checked {
     /// Makes the calls on a state of ours, and compares every answer and the state at the end with those of `step`.
     pub fn compare(&self, name: &str, make: impl Fn(&mut Ours, usize)) -> Result<(), Wrong> {
         let mut ours = Ours::of(&self.start);
-        for (place, expected) in self.answers.iter().enumerate() {
+        self.compare_answers(name, |place| {
             make(&mut ours, place);
-            let found = ours.answer();
+            ours.answer()
+        })?;
+        self.compare_end(name, ours.image() == self.end && ours.keeps_its_size())
+    }
+
+    /// Makes the calls through another step, and compares every answer and the image at the end.
+    pub fn compare_step(&self, name: &str, step: Step) -> Result<(), Wrong> {
+        let mut host = Host::on(self.start.clone(), step);
+        self.compare_answers(name, |place| host.answered(&self.frames[place]).unwrap_or_default().to_vec())?;
+        self.compare_end(name, host.image == self.end)
+    }
+
+    fn compare_answers(&self, name: &str, mut answer: impl FnMut(usize) -> Vec<u8>) -> Result<(), Wrong> {
+        for (place, expected) in self.answers.iter().enumerate() {
+            let found = answer(place);
             if found != *expected {
                 let (expected, found) = (digits_of(expected), digits_of(&found));
                 let both = format!("step answered {}, it {}", expected.escape_ascii(), found.escape_ascii());
                 return Err(self.different(name, place, &both));
             }
         }
-        match ours.image() == self.end && ours.keeps_its_size() {
+        Ok(())
+    }
+
+    fn compare_end(&self, name: &str, is_alike: bool) -> Result<(), Wrong> {
+        match is_alike {
             true => Ok(()),
             false => Err(self.different(name, self.answers.len() - 1, "the state is then not that of step")),
         }

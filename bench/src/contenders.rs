@@ -3,15 +3,15 @@
 use crate::check::Checked;
 use crate::frames::Call;
 use crate::lists::List;
-use crate::measure::{Contender, RUST};
+use crate::measure::{Contender, PLAIN, RUST};
 use crate::original::Original;
 use crate::ours::{Calls, Ours, Tick};
 use crate::program::Program;
-use crate::step::Host;
-use crate::Wrong;
+use crate::step::{archived, Host, Step};
+use crate::{plain, Wrong};
 use std::path::Path;
 
-/// A list of calls of all kinds: the Rust, `step`, `apply` and the program calls.
+/// A list of calls of all kinds: the Rust, the plain step, `step`, `apply` and the program calls.
 pub struct Mixed {
     pub checked: Checked,
     original: Original,
@@ -24,6 +24,7 @@ impl Mixed {
     pub fn of(list: List, program: &Path, folder: &Path) -> Result<Mixed, Wrong> {
         let original = Original::of(&list);
         let checked = Checked::of(list)?;
+        checked.compare_step(PLAIN, plain::step)?;
         let calls = Calls::of(&checked.frames);
         checked.compare("apply", |ours, place| ours.apply(&calls, place))?;
         let program = Program::checked(program, &checked, folder)?;
@@ -36,14 +37,15 @@ impl Mixed {
         let apply = |ours: &mut Ours, place| ours.apply(&self.calls, place);
         vec![
             Contender::new(&list.name, RUST, count, || self.original.timed(end)),
-            Contender::new(&list.name, "step", count, || Host::on(start.clone()).timed(frames, end)),
+            stepped(&self.checked, PLAIN, plain::step),
+            stepped(&self.checked, "step", archived),
             Contender::new(&list.name, "apply", count, move || Ours::of(start).timed(count, end, apply)),
             Contender::new(&list.name, "calls", self.program.lines, || self.program.timed()),
         ]
     }
 }
 
-/// A list that has only ticks: the Rust, `step`, and the tick by value and lent.
+/// A list that has only ticks: the Rust, the plain step, `step`, and the tick by value and lent.
 pub struct Ticks {
     pub checked: Checked,
     original: Original,
@@ -56,6 +58,7 @@ impl Ticks {
         let tick = |call: &Call| Tick { core: call.arguments[0], elapsed: call.arguments[1] as u32 };
         let ticks: Vec<Tick> = list.calls.iter().map(tick).collect();
         let checked = Checked::of(list)?;
+        checked.compare_step(PLAIN, plain::step)?;
         checked.compare("tick by value", |ours, place| ours.tick(&ticks[place]))?;
         checked.compare("lent tick", |ours, place| ours.tick_lent(&ticks[place]))?;
         Ok(Ticks { checked, original, ticks })
@@ -68,9 +71,16 @@ impl Ticks {
         let lent = |ours: &mut Ours, place: usize| ours.tick_lent(&self.ticks[place]);
         vec![
             Contender::new(&list.name, RUST, count, || self.original.timed(end)),
-            Contender::new(&list.name, "step", count, || Host::on(start.clone()).timed(frames, end)),
+            stepped(&self.checked, PLAIN, plain::step),
+            stepped(&self.checked, "step", archived),
             Contender::new(&list.name, "tick by value", count, move || Ours::of(start).timed(count, end, by_value)),
             Contender::new(&list.name, "lent tick", count, move || Ours::of(start).timed(count, end, lent)),
         ]
     }
+}
+
+/// A step on a list's frames, ours or the plain one: both are behind the same pointer to a function.
+fn stepped<'a>(checked: &'a Checked, name: &'static str, step: Step) -> Contender<'a> {
+    let Checked { list, frames, start, end, .. } = checked;
+    Contender::new(&list.name, name, frames.len(), move || Host::on(start.clone(), step).timed(frames, end))
 }

@@ -3,6 +3,7 @@
 //!   lists                   the lists of calls, drawn beside the Rust
 //!   original                the Rust, as a kernel in Rust calls it
 //!   step, image             the host entry, and the image that it works on
+//!   plain                   what the host entry does, in plain Rust
 //!   ours, module            our functions by value and lent
 //!   program                 the program calls
 //!   sizes, check            that values have the sizes they should, and that all answer alike
@@ -20,6 +21,7 @@ mod module;
 mod original;
 mod ours;
 mod picture;
+mod plain;
 mod program;
 mod report;
 mod sizes;

@@ -16,6 +16,9 @@ pub struct Contender<'a> {
 /// The name of the contender that others are compared with.
 pub const RUST: &str = "Rust";
 
+/// The name of the step that is written in Rust as well.
+pub const PLAIN: &str = "plain step";
+
 /// How long a turn takes at least. A run that is shorter is repeated, each time from the set-up: a run of the Rust's
 /// takes a millisecond, of which the first part would be spent on filling caches.
 const TURN: Duration = Duration::from_millis(50);

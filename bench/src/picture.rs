@@ -1,6 +1,6 @@
 //! What was measured as a picture in SVG: a bar for each contender, on a logarithmic axis of nanoseconds a call.
 
-use crate::measure::{Measured, RUST};
+use crate::measure::{Measured, PLAIN, RUST};
 use crate::table::NEEDED;
 
 // Places and lengths in the picture's own units.
@@ -95,7 +95,7 @@ fn limit(axis: &Axis, below: f64) -> String {
 
 fn bar(one: &Measured, axis: &Axis, top: f64) -> String {
     let width = (axis.place(one.median) - BARS_FROM).max(1.0);
-    let colour = if one.name == RUST { RUST_BAR } else { OUR_BAR };
+    let colour = if [RUST, PLAIN].contains(&one.name) { RUST_BAR } else { OUR_BAR };
     let size = format!("width=\"{width:.1}\" height=\"{BAR_HEIGHT}\"");
     format!("<rect x=\"{BARS_FROM}\" y=\"{top:.1}\" {size} fill=\"{colour}\"/>\n")
 }

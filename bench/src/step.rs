@@ -41,14 +41,26 @@ impl Frame {
     }
 }
 
+/// A step: image, frame and buffer in, image and answer out. It gives the answer's length, or 256 and the refusal.
+pub type Step = fn(image: &mut [u8], frame: &[u8], answer: &mut [u8]) -> u64;
+
+/// The archive's.
+pub fn archived(image: &mut [u8], frame: &[u8], answer: &mut [u8]) -> u64 {
+    // SAFETY: every pointer has its length of bytes behind it, which nobody else uses meanwhile.
+    unsafe { step(image.as_mut_ptr(), image.len(), frame.as_ptr(), frame.len(), answer.as_mut_ptr(), answer.len()) }
+}
+
+/// A host that keeps an image and asks a step.
 pub struct Host {
     pub image: Vec<u8>,
     answer: [u8; ANSWER_BYTES],
+    step: Step,
 }
 
 impl Host {
+    /// A host of the archive, on a new image.
     pub fn new() -> Result<Host, Wrong> {
-        let mut host = Host::on(vec![0; image::BYTES]);
+        let mut host = Host::on(vec![0; image::BYTES], archived);
         // SAFETY: the pointer has its length of bytes behind it.
         match unsafe { new_image(host.image.as_mut_ptr(), host.image.len()) } {
             0 => Ok(host),
@@ -56,11 +68,11 @@ impl Host {
         }
     }
 
-    pub fn on(image: Vec<u8>) -> Host {
-        Host { image, answer: [0; ANSWER_BYTES] }
+    pub fn on(image: Vec<u8>, step: Step) -> Host {
+        Host { image, answer: [0; ANSWER_BYTES], step }
     }
 
-    /// Does a frame, and gives the answer; none where `step` refused the image, the buffer or the frame.
+    /// Does a frame, and gives the answer; none where image, buffer or frame were refused.
     pub fn answered(&mut self, frame: &Frame) -> Option<&[u8]> {
         let length = self.step(frame);
         self.answer.get(..length as usize)
@@ -80,8 +92,6 @@ impl Host {
     }
 
     fn step(&mut self, frame: &Frame) -> u64 {
-        let (image, bytes, answer) = (&mut self.image, frame.bytes(), &mut self.answer);
-        // SAFETY: every pointer has its length of bytes behind it, which nobody else uses meanwhile.
-        unsafe { step(image.as_mut_ptr(), image.len(), bytes.as_ptr(), bytes.len(), answer.as_mut_ptr(), answer.len()) }
+        (self.step)(&mut self.image, frame.bytes(), &mut self.answer)
     }
 }
