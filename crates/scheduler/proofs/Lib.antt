@@ -6,6 +6,7 @@
 --   Picks       rule P                                    Waiting     demand 3
 --   Stretches   the stretch is as long as can be          Worked      one stretch, computed
 --   Asked       slots and cores of 64 and above, in queries
+--   Elsewhere   which records a call leaves as they were
 --
 -- and what the code's contracts promise together:
 --
@@ -32,6 +33,7 @@ pub mod Waiting
 pub mod Stretches
 pub mod Worked
 pub mod Asked
+pub mod Elsewhere
 pub mod Histories
 pub mod MachineValues
 pub mod Lending

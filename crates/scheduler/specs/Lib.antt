@@ -6,6 +6,7 @@
 --   Waking     create to enqueue                         Ticking    tick, yield, handoff, plan
 --   Queries    0b to 10                                  Step       all of them as one, and lists of calls
 --   Took       what P takes in a call                    Paper      an answer's numbers
+--   Touched    which records a call can change
 --   Stretch    X's stretch, its picks, those before X    Demand3    what is claimed of every list
 --   Longest    what keeps the stretch from being cut short
 --   Scheduler  the stored scheduler, what calls promise    History    histories of calls, and what is claimed of each
@@ -19,6 +20,7 @@ pub mod Queries
 pub mod Step
 pub mod Took
 pub mod Paper
+pub mod Touched
 pub mod Stretch
 pub mod Demand3
 pub mod Longest
