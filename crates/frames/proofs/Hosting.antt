@@ -4,26 +4,27 @@ use mathlib.Core.Bool.{Bool, true, false, cond, not, _||_, or-true}
 use mathlib.Core.List.{List}
 use Prim.Native.Nat.{ℕ, _≤_, _<_}
 use native.Mathlib.Omega.{arith}
-use borrow.Author.Tests.{lt-ltb, le-ltb, eq-eqb}
+use borrow.Author.Tests.{lt-ltb, le-ltb}
 use lib.Dec.{eqb}
 use lib.ListN.{length}
 use lib.Seq.{sets}
 use Rattle.records.specs.declared.error.SchedError.{SchedError}
 use Rattle.scheduler.specs.declared.answer.Answer.{Answer}
-use Rattle.scheduler.specs.declared.answer.Status.{Status}
 use Rattle.scheduler.specs.declared.answer.Status.the-variants as status
 use Rattle.scheduler.specs.declared.call.Call.{Call}
+use Rattle.scheduler.specs.declared.scheduler.QoSScheduler.{QoSScheduler}
 use Rattle.scheduler.specs.declared.scheduler.Reply.{Reply}
 use Rattle.scheduler.specs.Outcome.{Outcome}
 use Rattle.scheduler.specs.Scheduler.{abs, Meets}
-use Rattle.scheduler.specs.State.{State, newState}
+use Rattle.scheduler.specs.State.{State, newState, task}
 use Rattle.scheduler.specs.Step.{step}
+use Rattle.scheduler.specs.Touched.{namedSlot, answeredSlot, SameBut}
+use Rattle.scheduler.proofs.Elsewhere.{records-stay}
 use Rattle.scheduler.proofs.Refusals.{refused-whole}
 use Rattle.frames.specs.declared.decode.CallOption.{CallOption}
 use Rattle.frames.specs.declared.decode.CallOption.the-variants.{None, Some}
 use Rattle.frames.specs.declared.host.ImageAnswer.{ImageAnswer}
 use Rattle.frames.specs.declared.host.ImageAnswer.the-variants as told
-use Rattle.frames.specs.declared.read.ImageRead.{ImageRead}
 use Rattle.frames.specs.declared.read.ImageStatus.{ImageStatus}
 use Rattle.frames.specs.declared.read.ImageStatus.the-variants as read
 use Rattle.frames.specs.declared.refusal.HostError.{HostError}
@@ -32,11 +33,10 @@ use Rattle.frames.specs.AcceptedImage.{AcceptedImage, acceptsImage}
 use Rattle.frames.specs.Answer.{answerBytes}
 use Rattle.frames.specs.Bytes.{Puts}
 use Rattle.frames.specs.Frame.{frameCall}
-use Rattle.frames.specs.Host.{hostNumber, refusalReturned, answerRoom, imageStatus, readState, ReadsImage, OnImage, onImage, calledOn, callOnImage, made, hostNew, Hosted, hosted, hostRefused, hostCalled, hostStep, refusalIn, storedFor}
+use Rattle.frames.specs.Host.{hostNumber, refusalReturned, answerRoom, imageStatus, ReadAs, OnImage, onImage, calledOn, callOnImage, made, hostNew, Hosted, hosted, hostRefused, hostCalled, hostStep, refusalIn, Answers}
 use Rattle.frames.specs.Image.{imageLength, imageOf, stateAt}
 use Rattle.frames.specs.ImageParts.{WritesImage}
 use Rattle.frames.proofs.Images.{writes-back}
-use Rattle.frames.proofs.Readings.{status-says}
 
 pub hostNumber-small : (e : HostError) → hostNumber e ≤ 9
 hostNumber-small WrongLength = omega arith
@@ -69,29 +69,40 @@ pub refused-image : (image : List ℕ) → AcceptedImage image → (call : Call)
     imageOf (step call (stateAt image) .state) ≡ image
 refused-image image a call {e} is = ap (λ (o : Outcome). imageOf (o .state)) (refused-whole call (stateAt image) e is) ∙ writes-back image a
 
--- what is stored for an answer's status
-stored-image : (image : List ℕ) → AcceptedImage image → (call : Call) (st : Status) → step call (stateAt image) .answer .status ≡ st →
-    storedFor st (step call (stateAt image) .state) image ≡ imageOf (step call (stateAt image) .state)
-stored-image image a call status.Done is = rw (eq-eqb (length image) imageLength (a .length-is))
-stored-image image a call (status.Refused e) is = sym (refused-image image a call is)
+module _ (call : Call) (before : List ℕ) {s : QoSScheduler} (from : ReadAs (stateAt before) s) {reply : Reply} (meets : Meets call s reply) where
+  told-is : reply .answer ≡ step call (stateAt before) .answer
+  told-is = meets .answer-is ∙ ap (λ (t : State). step call t .answer) (from .state-is)
 
-module _ (call : Call) {before : List ℕ} {r : ImageRead} (reads : ReadsImage before r) where
-  pub called-refused : {e : HostError} → r .status ≡ read.Refused e → onImage (told.Refused e) before ≡ callOnImage call before
-  unfolding callOnImage
-  called-refused is = ap (λ (t : ImageStatus). calledOn t call before) (sym is ∙ reads .status-is)
+  left-is : abs (reply .state) ≡ step call (stateAt before) .state
+  left-is = meets .state-is ∙ ap (λ (t : State). step call t .state) (from .state-is)
 
-  pub called-done : {reply : Reply} {after : List ℕ} → r .status ≡ read.Accepted → Meets call (r .state) reply →
-      after ≡ storedFor (reply .answer .status) (abs (reply .state)) before → onImage (told.Answered (reply .answer)) after ≡ callOnImage call before
+  -- the ways out of a call on an accepted image
+  pub answers-refused : {e : SchedError} → AcceptedImage before → reply .answer .status ≡ status.Refused e → Answers call before before (reply .answer)
+  answers-refused a is = record {
+    answer-is = told-is;
+    image-is = sym (refused-image before a call (ap (λ (r : Answer). r .status) (sym told-is) ∙ is));
+  }
+
+  pub answers-done : {after : List ℕ} → after ≡ imageOf (abs (reply .state)) → Answers call before after (reply .answer)
+  answers-done is = record { answer-is = told-is; image-is = is ∙ ap imageOf left-is }
+
+  -- and which records need not be written
+  pub untouched : {named answered : ℕ} → named ≡ namedSlot call (stateAt before) → answered ≡ answeredSlot (reply .answer) →
+      SameBut named answered (stateAt before) (abs (reply .state))
+  untouched n a slot not-named not-answered =
+      ap (λ (t : State). task t slot) left-is
+      ∙ records-stay call (stateAt before) slot (λ e. not-named (e ∙ sym n)) (λ e. not-answered (e ∙ ap answeredSlot (sym told-is) ∙ sym a))
+
+module _ (call : Call) {before : List ℕ} {st : ImageStatus} (is : st ≡ imageStatus before) where
+  pub called-refused : {e : HostError} → st ≡ read.Refused e → onImage (told.Refused e) before ≡ callOnImage call before
   unfolding callOnImage
-  called-done {reply} {after} is meets stored =
-      let st : imageStatus before ≡ read.Accepted = sym (reads .status-is) ∙ is in
-      let from : abs (r .state) ≡ stateAt before = reads .read-as .state-is ∙ ap (λ (t : ImageStatus). readState t before) st in
-      let answer-is : reply .answer ≡ step call (stateAt before) .answer = meets .answer-is ∙ ap (λ (s : State). step call s .answer) from in
-      let state-is : abs (reply .state) ≡ step call (stateAt before) .state = meets .state-is ∙ ap (λ (s : State). step call s .state) from in
-      let image-is : after ≡ imageOf (step call (stateAt before) .state) =
-      stored ∙ ap (λ (s : State). storedFor (reply .answer .status) s before) state-is
-      ∙ stored-image before (status-says before st) call (reply .answer .status) (ap (λ (a : Answer). a .status) (sym answer-is)) in
-      (λ i. onImage (told.Answered (answer-is i)) (image-is i)) ∙ ap (λ (t : ImageStatus). calledOn t call before) (sym st)
+  called-refused refused = ap (λ (t : ImageStatus). calledOn t call before) (sym refused ∙ is)
+
+  pub called-accepted : {after : List ℕ} {r : Answer} → st ≡ read.Accepted → Answers call before after r →
+      onImage (told.Answered r) after ≡ callOnImage call before
+  unfolding callOnImage
+  called-accepted accepted answers =
+      (λ i. onImage (told.Answered (answers .answer-is i)) (answers .image-is i)) ∙ ap (λ (t : ImageStatus). calledOn t call before) (sym accepted ∙ is)
 
 -- ---- a frame on an image
 

@@ -8,7 +8,7 @@ use Prim.Native.Nat.{ℕ, zero, suc, _+_, _-_, _*_, _≤_, _<_, _^_}
 use native.Mathlib.Omega.{arith}
 use lib.Dec.{eqb}
 use lib.ListN.{length, getD, take, drop, replicate, length-append, length-drop, take-append-drop, List·getD-eq-default}
-use lib.Seq.{take-all, take-at, drop-at, take-add, take-append-seam, drop-drop, length-take-le, getD-drop}
+use lib.Seq.{take-all, take-at, drop-at, take-add, take-append-seam, drop-drop, length-take-le, getD-take, getD-drop}
 use Rattle.records.specs.declared.band.QoSClass.{QoSClass}
 use Rattle.records.specs.declared.band.QoSClass.the-variants.{UserInteractive, RealTimeIO, Background}
 use Rattle.records.specs.declared.state.ThreadState.{ThreadState}
@@ -22,7 +22,8 @@ use Rattle.queue.specs.Rules.{places}
 use Rattle.queue.proofs.Rules.{length-places}
 use Rattle.scheduler.specs.Accepted.{Each, Accepted}
 use Rattle.scheduler.specs.Paper.{recordNumbers, flagNumber}
-use Rattle.scheduler.specs.State.{State, task, queue}
+use Rattle.scheduler.specs.State.{State, noneByte, task, queue, holder}
+use Rattle.scheduler.proofs.Stored.{read-any}
 use Rattle.frames.specs.AcceptedImage.{AcceptedImage, bandByte, stateByte, inUseByte}
 use Rattle.frames.specs.Answer.{recordWidths, recordBytes}
 use Rattle.frames.specs.Bytes.{AllBytes, bytesOf, bigEndian, part, numberAt, total}
@@ -182,6 +183,19 @@ queue-read image UserInteractive = refl
 queue-read image RealTimeIO = refl
 queue-read image Background = refl
 
+-- a core's holder is its byte
+pub holder-byte : (image : List ℕ) (core : ℕ) → length image ≡ imageLength → core < 64 → getD image (holdersPlace + core) 0 ≡ holder (stateAt image) core
+unfolding stateAt
+holder-byte image core whole h =
+    read-any image (holdersPlace + core) 0 noneByte (omega (arith, whole))
+    ∙ sym (getD-take 64 (drop holdersPlace image) core noneByte h ∙ getD-drop holdersPlace image core noneByte)
+
+-- and a core of 64 and above has none
+pub holder-past : (image : List ℕ) (core : ℕ) → length image ≡ imageLength → 64 ≤ core → holder (stateAt image) core ≡ noneByte
+unfolding stateAt
+holder-past image core whole h =
+    List·getD-eq-default (part holdersPlace 64 image) noneByte (omega (arith, h, length-part holdersPlace 64 image (omega (arith, whole))))
+
 -- ---- a queue
 
 -- 65 bytes
@@ -235,7 +249,7 @@ abbrev widths : ℕ → List ℕ
 widths cores = 64 * recordLength ∷ queueLength ∷ queueLength ∷ queueLength ∷ cores ∷ 8 ∷ []
 
 -- the records in front, and what stands behind them
-records-first : (s : State) → (rest : List ℕ) × (imageOf s ≡ recordsBytes (s .tasks) ++ rest)
+pub records-first : (s : State) → (rest : List ℕ) × (imageOf s ≡ recordsBytes (s .tasks) ++ rest)
 unfolding flatten
 records-first s = (_, imageOf-pieces s)
 

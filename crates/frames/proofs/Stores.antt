@@ -1,13 +1,13 @@
--- Bytes stored one behind the other in a buffer (`sets`): in two goes, the last one first, and read back.
+-- Bytes stored one behind the other in a buffer (`sets`): in two goes, the last one first, over a part of it, and read back.
 -- Assumes nothing.
 use mathlib.Core.Path.{_≡_, refl, sym, ap, _∙_}
 use mathlib.Core.List.{List, [], _∷_, _++_}
 use Prim.Native.Nat.{ℕ, suc, _+_, _≤_, _<_}
 use native.Mathlib.Omega.{arith}
-use native.Mathlib.Nat.{add-zero, add-suc, suc-add}
+use native.Mathlib.Nat.{add-zero, add-suc, suc-add, zero-add}
 use native.Mathlib.Numerals.{add-one}
-use lib.ListN.{length, getD, take, drop, set}
-use lib.Seq.{sets, sets-eq, set-comm, take-at, take-all, drop-cons, length-sets, getD-take}
+use lib.ListN.{length, getD, take, drop, set, length-append}
+use lib.Seq.{sets, sets-eq, set-comm, take-at, take-all, drop-at, drop-cons, length-sets, getD-take}
 
 -- first some, then the rest behind them
 pub sets-append : (o : List ℕ) (at : ℕ) (a b : List ℕ) → sets o at (a ++ b) ≡ sets (sets o at a) (at + length a) b
@@ -33,6 +33,22 @@ pub sets-on : (o : List ℕ) {now : List ℕ} (at k : ℕ) (a : List ℕ) → k 
 sets-on o at k a h e =
     let next : at + (k + 1) ≡ suc (at + k) = omega arith in
     (λ i. sets (e i) (next i) (drop (add-one k i) a)) ∙ ap (sets o (at + k)) (sym (drop-cons a k 0 h))
+
+-- a store behind the first byte, behind the first bytes, and over the first bytes
+sets-cons : (x : ℕ) (o : List ℕ) (at : ℕ) (a : List ℕ) → sets (x ∷ o) (suc at) a ≡ x ∷ sets o at a
+sets-cons x o at [] = refl
+sets-cons x o at (y ∷ a) = sets-cons x (set o at y) (suc at) a
+
+pub sets-behind : (front o : List ℕ) (at : ℕ) (a : List ℕ) → sets (front ++ o) (length front + at) a ≡ front ++ sets o at a
+sets-behind [] o at a = ap (λ (n : ℕ). sets o n a) (zero-add at)
+sets-behind (x ∷ front) o at a =
+    ap (λ (n : ℕ). sets (x ∷ front ++ o) n a) (suc-add (length front) at)
+    ∙ sets-cons x (front ++ o) (length front + at) a
+    ∙ ap (λ (l : List ℕ). x ∷ l) (sets-behind front o at a)
+
+pub sets-over : (front o a : List ℕ) → length front ≡ length a → sets (front ++ o) 0 a ≡ a ++ o
+sets-over front o a e =
+    sets-eq a (front ++ o) 0 (omega (arith, e, length-append front o)) ∙ ap (λ (l : List ℕ). a ++ l) (drop-at front o (0 + length a) (omega (arith, e)))
 
 -- what was stored at the front stands there
 pub take-sets : (o a : List ℕ) → length a ≤ length o → take (length a) (sets o 0 a) ≡ a

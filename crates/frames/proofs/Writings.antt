@@ -2,33 +2,38 @@
 -- and the image from all of them. Assumes nothing.
 use mathlib.Core.Path.{_≡_, refl, sym, ap, _∙_}
 use mathlib.Core.Bool.{Bool, cond}
-use mathlib.Core.List.{List, [], _∷_, _++_}
-use Prim.Native.Nat.{ℕ, suc, _+_, _*_, _≤_, _<_}
+use mathlib.Core.List.{List, [], _∷_, _++_, append-assoc}
+use Prim.Native.Nat.{ℕ, zero, suc, _+_, _*_, _%_, _≤_, _<_}
 use native.Mathlib.Omega.{arith}
 use native.Mathlib.Numerals.{add-one}
+use borrow.Author.Tests.{eqb-true, eqb-false}
 use lib.Dec.{eqb}
-use lib.ListN.{length, getD, drop, length-append, drop-of-length-le}
-use lib.Seq.{sets, drop-cons}
+use lib.ListN.{length, getD, drop, set, length-set, length-append, drop-of-length-le}
+use lib.Seq.{sets, length-sets, drop-cons, ext-getD, getD-set-same, getD-set-other}
 use Rattle.records.specs.declared.band.QoSClass.{QoSClass}
 use Rattle.records.specs.declared.band.QoSClass.the-variants.{UserInteractive, RealTimeIO, Background}
 use Rattle.records.specs.declared.task.TaskControlBlock.{TaskControlBlock}
 use Rattle.records.specs.Band.{bandCode}
+use Rattle.records.specs.Task.{emptyRecord}
+use Rattle.records.proofs.Cases.{split}
 use Rattle.queue.specs.declared.BandQueue.{BandQueue}
 use Rattle.queue.specs.Rules.{places}
 use Rattle.queue.specs.Stored.{entries, WellFormed}
 use Rattle.scheduler.specs.declared.scheduler.QoSScheduler.{QoSScheduler}
 use Rattle.scheduler.specs.Scheduler.{queuesOf, abs, Whole, Valid}
 use Rattle.scheduler.specs.State.{State, Queues, ofBand}
-use Rattle.scheduler.proofs.Stored.{ring-of, entries-of}
+use Rattle.scheduler.specs.Touched.{SameBut}
+use Rattle.scheduler.proofs.Stored.{read-any, ring-of, entries-of}
+use Rattle.frames.specs.AcceptedImage.{AcceptedImage}
 use Rattle.frames.specs.Answer.{recordBytes}
 use Rattle.frames.specs.Bytes.{bytesOf}
-use Rattle.frames.specs.Image.{recordLength, queueLength, queuesPlace, holdersPlace, microsPlace, imageLength, recordsBytes, queueBytes, queuesBytes, imageOf}
+use Rattle.frames.specs.Image.{recordLength, recordPlace, queueLength, queuesPlace, holdersPlace, microsPlace, imageLength, recordsBytes, queueBytes, queuesBytes, imageOf, stateAt}
 use Rattle.frames.specs.Fits.{HasImage}
 use Rattle.frames.specs.ImageParts.{Short, WritesImage}
-use Rattle.frames.proofs.Images.{length-recordsBytes, length-queueBytes, length-imageOf}
+use Rattle.frames.proofs.Images.{length-recordsBytes, length-tasks, length-queueBytes, records-first, length-imageOf, writes-back}
 use Rattle.frames.proofs.Runs.{behind, run}
 use Rattle.frames.proofs.Sizes.{length-recordBytes}
-use Rattle.frames.proofs.Stores.{sets-append, sets-all}
+use Rattle.frames.proofs.Stores.{sets-append, sets-behind, sets-over, sets-all}
 
 -- ---- the records
 
@@ -48,6 +53,37 @@ records-on o tasks slot d h e =
 pub records-end : (o : List ℕ) (tasks : List TaskControlBlock) (slot : ℕ) → length tasks ≤ slot → o ≡ sets o (recordLength * slot) (recordsBytes (drop slot tasks))
 unfolding recordsBytes
 records-end o tasks slot h = ap (λ ts. sets o (recordLength * slot) (recordsBytes ts)) (sym (drop-of-length-le tasks h))
+
+-- a record over that of its slot, whatever stands behind the records
+record-over : (tasks : List TaskControlBlock) (rest : List ℕ) (slot : ℕ) (t : TaskControlBlock) → slot < length tasks →
+    sets (recordsBytes tasks ++ rest) (recordPlace slot) (recordBytes t) ≡ recordsBytes (set tasks slot t) ++ rest
+unfolding recordsBytes
+record-over [] rest slot t h = absurd (omega arith)
+record-over (u ∷ tasks) rest zero t h =
+    ap (λ (l : List ℕ). sets l 0 (recordBytes t)) (append-assoc (recordBytes u) (recordsBytes tasks) rest)
+    ∙ sets-over (recordBytes u) (recordsBytes tasks ++ rest) (recordBytes t) (length-recordBytes u ∙ sym (length-recordBytes t))
+    ∙ sym (append-assoc (recordBytes t) (recordsBytes tasks) rest)
+record-over (u ∷ tasks) rest (suc slot) t h =
+    let place : recordPlace (suc slot) ≡ length (recordBytes u) + recordPlace slot = omega (arith, length-recordBytes u) in
+    (λ i. sets (append-assoc (recordBytes u) (recordsBytes tasks) rest i) (place i) (recordBytes t))
+    ∙ sets-behind (recordBytes u) (recordsBytes tasks ++ rest) (recordPlace slot) (recordBytes t)
+    ∙ ap (λ (l : List ℕ). recordBytes u ++ l) (record-over tasks rest slot t (omega arith))
+    ∙ sym (append-assoc (recordBytes u) (recordsBytes (set tasks slot t)) rest)
+
+-- a list from one that differs at two places only
+set-two : {A : Type 0} (d e : A) (l m : List A) (i j : ℕ) → length l ≡ length m → i < length l → j < length l →
+    ((k : ℕ) → k < length l → (k ≡ i → ⊥) → (k ≡ j → ⊥) → getD m k d ≡ getD l k d) → set (set l i (getD m i e)) j (getD m j e) ≡ m
+set-two d e l m i j long low-i low-j same =
+    let first = set l i (getD m i e) in
+    let inside : length first ≡ length l = length-set l i (getD m i e) in
+    ext-getD d (set first j (getD m j e)) m (length-set first j (getD m j e) ∙ inside ∙ long) (λ k low.
+    let here : k < length l = omega (arith, low, inside, length-set first j (getD m j e)) in
+    split (λ _. getD (set first j (getD m j e)) k d ≡ getD m k d) (eqb k j)
+    (λ is. rw (eqb-true k j is) (getD-set-same first j (getD m j e) d (omega (arith, inside)) ∙ read-any m j e d (omega (arith, long))))
+    (λ not-j. getD-set-other first j k (getD m j e) d (eqb-false k j not-j)
+    ∙ split (λ _. getD first k d ≡ getD m k d) (eqb k i)
+    (λ is. rw (eqb-true k i is) (getD-set-same l i (getD m i e) d low-i ∙ read-any m i e d (omega (arith, long))))
+    (λ not-i. getD-set-other l i k (getD m i e) d (eqb-false k i not-i) ∙ sym (same k here (eqb-false k i not-i) (eqb-false k j not-j)))))
 
 -- ---- the queues
 
@@ -126,6 +162,34 @@ module _ (s : QoSScheduler) (v : Valid s) where
       behind o 0 microsPlace (records ++ queues ++ s .current) (bytesOf 8 (s .«system_ticks_us»)) behind-queues
       (omega (arith, n₁, n₂, v .accepted .cores, length-append records queues, length-append (records ++ queues) (s .current))) e₄
       ∙ sets-all o _ (length-imageOf (abs s) (v .accepted) ∙ sym long)
+
+  -- the same over the image of a state with the same records but for those of two slots
+  pub image-over : (image : List ℕ) {o₁ o₂ o₃ o₄ o₅ : List ℕ} (first second : ℕ) (d : TaskControlBlock) → AcceptedImage image
+      → SameBut first second (stateAt image) (abs s)
+      → o₁ ≡ sets image (recordPlace (first % 64)) (recordBytes (getD (s .tasks) (first % 64) d))
+      → o₂ ≡ sets o₁ (recordPlace (second % 64)) (recordBytes (getD (s .tasks) (second % 64) d))
+      → o₃ ≡ sets o₂ queuesPlace (queuesBytes (queuesOf (s .queues))) → o₄ ≡ sets o₃ holdersPlace (s .current)
+      → o₅ ≡ sets o₄ microsPlace (bytesOf 8 (s .«system_ticks_us»)) → o₅ ≡ imageOf (abs s)
+  unfolding abs
+  image-over image {o₁} {o₂} first second d a same e₁ e₂ =
+      let old = stateAt image .tasks in
+      let rest = records-first (stateAt image) .0 in
+      let size : length old ≡ 64 = length-tasks image in
+      let slots : length (s .tasks) ≡ 64 = v .accepted .slots in
+      let t = getD (s .tasks) (first % 64) d in
+      let u = getD (s .tasks) (second % 64) d in
+      let begin : image ≡ recordsBytes old ++ rest = sym (writes-back image a) ∙ records-first (stateAt image) .1 in
+      let one : o₁ ≡ recordsBytes (set old (first % 64) t) ++ rest =
+      e₁ ∙ ap (λ (l : List ℕ). sets l (recordPlace (first % 64)) (recordBytes t)) begin ∙ record-over old rest (first % 64) t (omega (arith, size)) in
+      let two : o₂ ≡ recordsBytes (set (set old (first % 64) t) (second % 64) u) ++ rest =
+      e₂ ∙ ap (λ (l : List ℕ). sets l (recordPlace (second % 64)) (recordBytes u)) one
+      ∙ record-over (set old (first % 64) t) rest (second % 64) u (omega (arith, size, length-set old (first % 64) t)) in
+      let whole : set (set old (first % 64) t) (second % 64) u ≡ s .tasks =
+      set-two emptyRecord d old (s .tasks) (first % 64) (second % 64) (size ∙ sym slots) (omega (arith, size)) (omega (arith, size))
+      (λ k low not-one not-two. same k (λ e. not-one (omega (arith, e, low, size))) (λ e. not-two (omega (arith, e, low, size)))) in
+      let all : o₂ ≡ recordsBytes (s .tasks) ++ rest = two ∙ ap (λ (ts : List TaskControlBlock). recordsBytes ts ++ rest) whole in
+      image-put o₂ (ap length e₂ ∙ length-sets o₁ _ (recordBytes u) ∙ ap length e₁ ∙ length-sets image _ (recordBytes t) ∙ a .length-is)
+      (sym (ap (λ (l : List ℕ). sets l 0 (recordsBytes (s .tasks))) all ∙ sets-over (recordsBytes (s .tasks)) rest (recordsBytes (s .tasks)) refl ∙ sym all))
 
 -- what the writer promises, by whether the buffer has an image's length
 pub image-written : {s : State} → HasImage s → (before : List ℕ) {after : List ℕ} {r : Bool} → eqb (length before) imageLength ≡ r

@@ -7,8 +7,7 @@ use Prim.Native.Nat.{ℕ, _+_}
 use lib.Dec.{ltb, eqb}
 use lib.ListN.{length}
 use lib.Seq.{sets}
-use Rattle.scheduler.specs.declared.answer.Status.{Status}
-use Rattle.scheduler.specs.declared.answer.Status.the-variants as status
+use Rattle.scheduler.specs.declared.answer.Answer.{Answer}
 use Rattle.scheduler.specs.declared.call.Call.{Call}
 use Rattle.scheduler.specs.declared.scheduler.QoSScheduler.{QoSScheduler}
 use Rattle.scheduler.specs.Outcome.{Outcome}
@@ -143,7 +142,7 @@ refusalIn read.Accepted = NoFrame
 abbrev pub refusalOf : List ℕ → HostError
 refusalOf image = refusalIn (imageStatus image)
 
--- the state's image is written over a buffer of an image's length, unless the call was refused
-abbrev pub storedFor : Status → State → List ℕ → List ℕ
-storedFor status.Done s before = cond (eqb (length before) imageLength) (imageOf s) before
-storedFor (status.Refused e) s before = before
+-- a call on an accepted image: its answer, and the image of the state after it
+pub record Answers (call : Call) (before after : List ℕ) (answer : Answer) : Type 0 where
+  pub answer-is : answer ≡ step call (stateAt before) .answer
+  pub image-is : after ≡ imageOf (step call (stateAt before) .state)

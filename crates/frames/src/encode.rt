@@ -191,7 +191,7 @@ fn put_times(task: TaskControlBlock, out: &mut [u8], at: usize)
     put_number(out, at + 8, 1, flag_number(task.in_use));
 }
 
-fn slot_number(slot: SlotOption) -> u64
+pub(crate) fn slot_number(slot: SlotOption) -> u64
     ensures { λ r. ⌜ r ≡ slotNumber slot ⌝ }
 {
     match slot {

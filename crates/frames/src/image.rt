@@ -5,7 +5,9 @@ ghost use lib.ListN.{length};
 ghost use lib.Seq.{sets};
 ghost use Rattle.queue.specs.Stored.{entries, WellFormed};
 ghost use Rattle.scheduler.specs.Scheduler.{abs, queuesOf, Valid, Whole};
-ghost use Rattle.frames.specs.Image.{queueLength, queuesPlace, recordsBytes, queueBytes, queuesBytes};
+ghost use Rattle.scheduler.specs.Touched.{SameBut};
+ghost use Rattle.frames.specs.AcceptedImage.{AcceptedImage};
+ghost use Rattle.frames.specs.Image.{queueLength, queuesPlace, recordsBytes, queueBytes, queuesBytes, imageOf, stateAt};
 ghost use Rattle.frames.specs.ImageParts.{WritesImage, Short};
 use crate::bytes::put_bytes;
 use crate::bytes::put_number;
@@ -39,6 +41,26 @@ pub fn write_image(state: QoSScheduler, image: &mut [u8]) -> bool
     put_bytes(&holders, image, HOLDERS_AT);
     put_number(image, MICROS_AT, 8, state.system_ticks_us);
     true
+}
+
+// The state's image, over that of a state whose records are the same but for those of two slots: the records that may
+// differ are written, and all that is not a record. A number of 64 and above is no slot; what is written for it is the record
+// of another, as it was.
+pub(crate) fn update_image(state: QoSScheduler, first: usize, second: usize, image: &mut [u8])
+    requires { ⌜ Valid state ⌝ }
+    requires { ⌜ AcceptedImage (now image) ⌝ }
+    requires { ⌜ SameBut first second (stateAt (now image)) (abs state) ⌝ }
+    ensures { λ _. ⌜ now (image .exit) ≡ imageOf (abs state) ⌝ }
+{
+    let one = first % MAX_TASKS;
+    let other = second % MAX_TASKS;
+    let queues = state.queues;
+    let holders = state.current;
+    put_record(state.tasks[one], image, RECORD_BYTES * one);
+    put_record(state.tasks[other], image, RECORD_BYTES * other);
+    put_queues(queues, image);
+    put_bytes(&holders, image, HOLDERS_AT);
+    put_number(image, MICROS_AT, 8, state.system_ticks_us);
 }
 
 // The records, one behind the other, at the front of the buffer.

@@ -70,7 +70,7 @@ pub fn check_image(image: &[u8]) -> ImageStatus
 }
 
 // The parts of an accepted image, each read into an array of its own, and the scheduler that they make together.
-fn state_at(image: &[u8]) -> QoSScheduler
+pub(crate) fn state_at(image: &[u8]) -> QoSScheduler
     requires { ⌜ AcceptedImage (now image) ⌝ }
     ensures { λ r. ⌜ ReadAs (stateAt (now (image .entry))) r ⌝ }
 {
