@@ -112,13 +112,24 @@ queues-hold image a b c = record {
   entries-are = λ i. record { interactive = a .entries-are i; realTime = b .entries-are i; background = c .entries-are i };
 }
 
+-- the scheduler with its records read so far, and all that is not a record
+pub record Reading (image : List ℕ) (slot : ℕ) (s : QoSScheduler) : Type 0 where
+  pub records : Recording image slot (s .tasks)
+  pub queues : Hold (s .queues) (stateAt image .queues)
+  pub holders : s .current ≡ stateAt image .holders
+  pub micros : IsNumber microsPlace 8 image (s .«system_ticks_us»)
+
 -- the parts of an accepted image make a valid scheduler
-pub state-made : {image : List ℕ} → AcceptedImage image → {s : QoSScheduler} → s .tasks ≡ stateAt image .tasks → Hold (s .queues) (stateAt image .queues) →
-    s .current ≡ stateAt image .holders → IsNumber microsPlace 8 image (s .«system_ticks_us») → ReadAs (stateAt image) s
+pub state-made : {image : List ℕ} → AcceptedImage image → {slot : ℕ} {s : QoSScheduler} → Reading image slot s → 64 ≤ slot → ReadAs (stateAt image) s
 unfolding abs stateAt
-state-made {image} a tasks queues holders micros =
-    let is : abs _ ≡ stateAt image = λ i. record { tasks = tasks i; queues = queues .entries-are i; holders = holders i; micros = micros .is i } in
-    record { valid = record { whole = queues .whole; accepted = subst Accepted (sym is) (accepted-state image a) }; state-is = is }
+state-made {image} a {slot} {s} r h =
+    let is : abs s ≡ stateAt image = λ i. record {
+      tasks = recording-ended image (r .records) h i;
+      queues = r .queues .entries-are i;
+      holders = r .holders i;
+      micros = r .micros .is i;
+    } in
+    record { valid = record { whole = r .queues .whole; accepted = subst Accepted (sym is) (accepted-state image a) }; state-is = is }
 
 -- ---- which bytes are refused
 

@@ -24,7 +24,23 @@ use records::MAX_CPUS;
 use records::MAX_TASKS;
 use records::QoSClass;
 use records::TaskControlBlock;
+use records::ThreadState;
+use records::Tid;
 use scheduler::QoSScheduler;
+
+// A record whose bytes are all 0, the quickest to fill an array with; none is left once an image is read.
+const BLANK: TaskControlBlock = TaskControlBlock {
+    tid: Tid(0),
+    qos: QoSClass::UserInteractive,
+    state: ThreadState::Ready,
+    context_handle: 0,
+    cr3: 0,
+    rsp0: 0,
+    cpu_affinity: 0,
+    slice_budget_us: 0,
+    consumed_slice_us: 0,
+    in_use: false,
+};
 
 // Whether bytes are an image that is accepted.
 pub enum ImageStatus {
@@ -69,35 +85,27 @@ pub fn check_image(image: &[u8]) -> ImageStatus
     ImageStatus::Accepted
 }
 
-// The parts of an accepted image, each read into an array of its own, and the scheduler that they make together.
+// The scheduler that an accepted image stands for. It is begun with blank records, and each slot's is read into its place: an
+// array of records of its own would have to be copied.
 pub(crate) fn state_at(image: &[u8]) -> QoSScheduler
     requires { ⌜ AcceptedImage (now image) ⌝ }
     ensures { λ r. ⌜ ReadAs (stateAt (now (image .entry))) r ⌝ }
 {
-    let tasks = tasks_at(image);
     let queues = queues_at(image);
     let current = holders_at(image);
     let system_ticks_us = number(image, MICROS_AT, 8);
-    QoSScheduler {
-        tasks,
+    let mut state = QoSScheduler {
+        tasks: [BLANK; MAX_TASKS],
         queues,
         current,
         system_ticks_us,
-    }
-}
-
-// Every slot's record.
-fn tasks_at(image: &[u8]) -> [TaskControlBlock; MAX_TASKS]
-    requires { ⌜ length (now image) ≡ imageLength ⌝ }
-    ensures { λ r. ⌜ r ≡ stateAt (now (image .entry)) .tasks ⌝ }
-{
-    let mut tasks = [TaskControlBlock::EMPTY; MAX_TASKS];
+    };
     let mut slot = 0;
     while slot < MAX_TASKS {
-        tasks[slot] = record_in(record_at(image, slot));
+        state.tasks[slot] = record_in(record_at(image, slot));
         slot += 1;
     }
-    tasks
+    state
 }
 
 // Every band's queue.
