@@ -2,12 +2,12 @@
 -- Assumes nothing.
 use mathlib.Core.Path.{_≡_, refl, sym, ap, _∙_}
 use mathlib.Core.List.{List, [], _∷_, _++_}
-use Prim.Native.Nat.{ℕ, suc, _+_, _≤_, _<_}
+use Prim.Native.Nat.{ℕ, zero, suc, _+_, _≤_, _<_}
 use native.Mathlib.Omega.{arith}
 use native.Mathlib.Nat.{add-zero, add-suc, suc-add, zero-add}
 use native.Mathlib.Numerals.{add-one}
-use lib.ListN.{length, getD, take, drop, set, length-append}
-use lib.Seq.{sets, sets-eq, set-comm, take-at, take-all, drop-at, drop-cons, length-sets, getD-take}
+use lib.ListN.{length, getD, take, drop, set, length-set, length-append}
+use lib.Seq.{sets, sets-eq, set-comm, set-out, take-at, take-all, drop-at, drop-cons, length-sets, getD-take}
 
 -- first some, then the rest behind them
 pub sets-append : (o : List ℕ) (at : ℕ) (a b : List ℕ) → sets o at (a ++ b) ≡ sets (sets o at a) (at + length a) b
@@ -49,6 +49,13 @@ sets-behind (x ∷ front) o at a =
 pub sets-over : (front o a : List ℕ) → length front ≡ length a → sets (front ++ o) 0 a ≡ a ++ o
 sets-over front o a e =
     sets-eq a (front ++ o) 0 (omega (arith, e, length-append front o)) ∙ ap (λ (l : List ℕ). a ++ l) (drop-at front o (0 + length a) (omega (arith, e)))
+
+-- what has no place is not stored: as many bytes as have room make the same
+pub sets-room : (o : List ℕ) (at n : ℕ) (a : List ℕ) → length o ≤ at + n → sets o at (take n a) ≡ sets o at a
+sets-room o at n [] h = ap (sets o at) (take-all n [] (omega arith))
+sets-room o at zero (x ∷ a) h =
+    sets-room o (suc at) zero a (omega (arith, h)) ∙ sym (ap (λ (l : List ℕ). sets l (suc at) a) (set-out o at x (omega (arith, h))))
+sets-room o at (suc n) (x ∷ a) h = sets-room (set o at x) (suc at) n a (omega (arith, h, length-set o at x))
 
 -- what was stored at the front stands there
 pub take-sets : (o a : List ℕ) → length a ≤ length o → take (length a) (sets o 0 a) ≡ a

@@ -1,51 +1,41 @@
--- `put_bytes` meets its contract. The loop's invariant: the bytes that are left, stored behind those that are done, give what is asked for.
--- Assumes nothing.
-use mathlib.Core.Path.{_≡_, sym, ap, _∙_}
-use mathlib.Core.Logic.{⊎-elim}
-use Prim.Native.Nat.{_+_, _-_}
-use native.Mathlib.Nat.{add-zero}
+-- `put_bytes` meets its contract: where not all bytes have a place, those that have one make the same. Assumes nothing.
+use mathlib.Core.Path.{sym, _∙_}
+use Prim.Native.Nat.{_-_}
+use native.Mathlib.Omega.{arith}
 use borrow.Author.Needs.{needs}
-use lib.ListN.{length, drop, drop-of-length-le}
-use lib.Seq.{sets, set-out, length-sets}
-use Rattle.frames.proofs.Stores.{sets-on}
+use lib.ListN.{length, length-take}
+use Rattle.frames.proofs.Stores.{sets-room}
 use Rattle.frames.proofs.bytes.put_bytes.Statement.{statement}
 use Rattle.frames.proofs.bytes.put_bytes.Tie as tie
 
-abbrev Inv-loop : tie.InvT-loop
-Inv-loop bytes out₀ at k₀ out k = sets out (at + k) (drop k bytes) ≡ sets out₀ at bytes
+slice-aggregate-put-all : tie.Need-slice-aggregate-put-all
+slice-aggregate-put-all c = sym (simp length-take (search needs))
 
-abbrev μ-loop : tie.MeasureT-loop
-μ-loop bytes out₀ at k₀ out k = length bytes - k
+put-all-requires : tie.Need-put-all-requires-2
+put-all-requires c κs = simp length-take (search needs)
 
-loop-holds : tie.Need-loop-holds Inv-loop μ-loop
-loop-holds c = ap (λ n. sets (c .args .out .now) n (c .args .bytes .now)) (add-zero _)
+returns-2 : tie.Need-returns-2
+returns-2 c =
+    let at-put-all = c .before .before in
+    let a = at-put-all .before .before .before .before .before .before .before .args in
+    at-put-all .put-all2 .ensures ∙ sets-room (a .out .now) (a .at) (length (a .out .now) - a .at) (a .bytes .now) (omega arith)
 
-loop-again : tie.Need-loop-again Inv-loop μ-loop
-loop-again c =
-    let at-loop = c .before .before in
-    sets-on _ _ (at-loop .loop .k) (at-loop .before .args .bytes .now) (search needs)
-    (⊎-elim (λ w. w .2) (λ w. w .1 ∙ sym (set-out _ _ _ (search needs))) (c .if1 .came))
-    ∙ at-loop .loop .inv
-
-returns : tie.Need-returns Inv-loop μ-loop
-returns c = ap (sets (c .before .loop .out) _) (sym (drop-of-length-le _ (c .loop-test .left))) ∙ c .before .loop .inv
-
-same-length : tie.Need-same-length Inv-loop μ-loop
-same-length c = ap length (returns c) ∙ simp length-sets
+returns-3 : tie.Need-returns-3
+returns-3 c =
+    let a = c .before .before .before .before .args in
+    sets-room (a .out .now) (a .at) 0 (a .bytes .now) (search needs)
 
 pub put-bytes-spec : {M : Type 1} → statement M
 put-bytes-spec =
     tie.close
     (tie.spec
-    Inv-loop
-    μ-loop
-    loop-holds
+    (λ c. search needs)
+    (λ c κs. search needs)
     (λ c. search needs)
     (λ c. search needs)
     (λ c. search needs)
+    slice-aggregate-put-all
+    put-all-requires
     (λ c. search needs)
-    (λ c. search needs)
-    (λ c. search needs)
-    loop-again
-    same-length
-    returns)
+    returns-2
+    returns-3)
