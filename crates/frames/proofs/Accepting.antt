@@ -4,13 +4,13 @@ use mathlib.Core.Path.{_≡_, sym, ap, _∙_}
 use mathlib.Core.Bool.{Bool, true, false, not, _&&_, and-false, and-true}
 use mathlib.Core.Logic.{Iff·rfl}
 use mathlib.Core.List.{List}
-use Prim.Native.Nat.{ℕ, suc, _+_, _≤_, _<_}
-use native.Mathlib.Nat.{add-zero}
+use Prim.Native.Nat.{ℕ, zero, suc, _+_, _-_, _≤_, _<_}
+use native.Mathlib.Nat.{add-zero, add-suc, add-assoc}
 use native.Mathlib.Omega.{arith}
 use borrow.Author.Tests.{not-true, not-false, lt-ltb, le-ltb, le-leb, lt-leb, eq-eqb, ne-eqb}
 use lib.Dec.{ltb, eqb}
-use lib.ListN.{length, getD, drop, length-take, length-drop}
-use lib.Seq.{getD-take, getD-drop}
+use lib.ListN.{length, getD, take, drop, length-take, length-drop}
+use lib.Seq.{getD-take, getD-drop, take-suc}
 use Rattle.records.specs.declared.band.QoSClass.{QoSClass}
 use Rattle.records.specs.declared.band.QoSClass.the-variants.{UserInteractive, RealTimeIO, Background}
 use Rattle.records.specs.declared.state.ThreadState.the-variants.{Ready}
@@ -24,11 +24,11 @@ use Rattle.scheduler.proofs.Says.{Says, less, at-most, both, each, bands}
 use Rattle.frames.specs.Bytes.{part}
 use Rattle.frames.specs.Image.{imageLength, queuePlace, holdersPlace, recordIn, recordAt, queueAt, lengthByte, slotByte, stateAt}
 use Rattle.frames.specs.AcceptedImage.{codesFit, slotFits, placeFits, bandFits, coreFits, acceptsImage}
-use Rattle.frames.specs.ImageParts.{LengthsFit}
+use Rattle.frames.specs.ImageParts.{allZero, LengthsFit}
 use Rattle.scheduler.proofs.Stored.{read-any}
 use Rattle.frames.proofs.Images.{task-read, task-past, queue-read}
 use Rattle.frames.proofs.AcceptedImages.{entry-read}
-use Rattle.frames.proofs.Passing.{fails, holds}
+use Rattle.frames.proofs.Passing.{Passing, zero-snoc, fails, holds}
 
 -- ---- the state of an image
 
@@ -113,7 +113,7 @@ module _ (image : List ℕ) (band : QoSClass) {len : ℕ} (size : len ≡ length
   unfolding placeFits
   place-entry place is h e = e ∙ rw (lt-ltb place (lengthByte (queueAt band image)) (omega (arith, h, size)), is)
 
-  pub place-unused : (place : ℕ) {slot : ℕ} → slot ≡ slotByte place (queueAt band image) → len ≤ place → eqb slot 0 ≡ placeFits image band place
+  place-unused : (place : ℕ) {slot : ℕ} → slot ≡ slotByte place (queueAt band image) → len ≤ place → eqb slot 0 ≡ placeFits image band place
   unfolding placeFits
   place-unused place is h = rw (le-ltb place (lengthByte (queueAt band image)) (omega (arith, h, size)), is)
 
@@ -124,6 +124,31 @@ module _ (image : List ℕ) (band : QoSClass) {len : ℕ} (size : len ≡ length
   pub band-places : {r : Bool} → len ≤ 64 → r ≡ everyBelow 64 (placeFits image band) → r ≡ bandFits image band
   unfolding bandFits
   band-places h e = e ∙ sym (rw (le-leb (lengthByte (queueAt band image)) 64 (omega (arith, h, size))))
+
+  -- where so many places have passed, and no more are entries, the rest are asked to be 0
+  module _ (whole : length image ≡ imageLength) {at k : ℕ} (so : Passing (placeFits image band) k) (is : at ≡ queuePlace band) (past : len ≤ k) where
+    rest-read : (n : ℕ) → k + n < 64 → getD (drop (at + 1 + k) image) n 0 ≡ slotByte (k + n) (queueAt band image)
+    rest-read n h = getD-drop (at + 1 + k) image n 0 ∙ rw (add-assoc (at + 1) k n) (slot-read image band (k + n) h is)
+
+    rest-unused : (n : ℕ) → k + n ≤ 64 → everyBelow (k + n) (placeFits image band) ≡ allZero (part (at + 1 + k) n image)
+    unfolding every everyBelow
+    rest-unused zero h = rw (add-zero k) (so .so-far)
+    rest-unused (suc n) h =
+        let rest = drop (at + 1 + k) image in
+        let inside : n < length rest = simp length-drop (omega (arith, whole, is, bandCode-small band)) in
+        ap (λ (m : ℕ). everyBelow m (placeFits image band)) (add-suc k n)
+        ∙ (λ i. sym (place-unused (k + n) (rest-read n (omega arith)) (omega (arith, past))) i && rest-unused n (omega arith) i)
+        ∙ sym (zero-snoc (take n rest) (getD rest n 0))
+        ∙ ap allZero (sym (take-suc rest n 0 inside))
+
+    pub band-rest : {n : ℕ} {r : Bool} → len ≤ 64 → n ≡ 64 - k → r ≡ allZero (part (at + 1 + k) n image) → r ≡ bandFits image band
+    band-rest short size-is e =
+        let all : k + (64 - k) ≡ 64 = omega (arith, so .inside) in
+        band-places short
+        (e
+        ∙ ap (λ (m : ℕ). allZero (part (at + 1 + k) m image)) size-is
+        ∙ sym (rest-unused (64 - k) (omega (arith, all)))
+        ∙ ap (λ (m : ℕ). everyBelow m (placeFits image band)) all)
 
   -- its entries
   pub queue-long : length image ≡ imageLength → len ≤ 64 → length (queue (stateAt image) band) ≡ len

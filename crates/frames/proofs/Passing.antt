@@ -1,13 +1,18 @@
--- Loops that test every number below 64, and a test that a call answered. Assumes nothing.
-use mathlib.Core.Path.{_≡_, refl, sym, subst, _∙_}
-use mathlib.Core.Bool.{Bool, true, false, not, and-false}
+-- Loops that test every number below 64, one that sums bytes which are to be 0, and a test that a call answered. Assumes nothing.
+use mathlib.Core.Path.{_≡_, refl, sym, ap, subst, _∙_}
+use mathlib.Core.Bool.{Bool, true, false, not, _&&_, and-false, and-true, and-assoc, and-comm}
+use mathlib.Core.List.{List, [], _∷_, _++_}
 use Prim.Native.Nat.{ℕ, zero, suc, _+_, _≤_, _<_}
+use native.Mathlib.Nat.{zero-add}
 use native.Mathlib.Numerals.{add-one}
 use native.Mathlib.Omega.{arith}
-use borrow.Author.Tests.{ltb-true, ltb-false, not-true, not-false}
-use lib.Dec.{ltb}
+use borrow.Author.Tests.{ltb-true, ltb-false, not-true, not-false, ne-eqb}
+use lib.Dec.{ltb, eqb}
+use lib.ListN.{length, getD, take}
+use lib.Seq.{take-suc}
 use Rattle.records.proofs.Cases.{split}
-use Rattle.scheduler.specs.Accepted.{everyBelow}
+use Rattle.scheduler.specs.Accepted.{every, everyBelow}
+use Rattle.frames.specs.ImageParts.{allZero}
 
 -- a test that a call answered by r, after the code asked `!r`
 module _ {test r : Bool} (is : r ≡ test) where
@@ -46,3 +51,31 @@ module _ {test : ℕ → Bool} {k : ℕ} (so : Passing test k) where
 
   pub passing-ended : 64 ≤ k → true ≡ everyBelow 64 test
   passing-ended h = sym (subst (λ (n : ℕ). everyBelow n test ≡ true) (omega (arith, so .inside)) (so .so-far))
+
+-- ---- bytes that are to be 0
+
+pub zero-snoc : (bytes : List ℕ) (b : ℕ) → allZero (bytes ++ (b ∷ [])) ≡ eqb b 0 && allZero bytes
+unfolding every
+zero-snoc [] b = refl
+zero-snoc (a ∷ bytes) b =
+    ap (λ (t : Bool). eqb a 0 && t) (zero-snoc bytes b)
+    ∙ sym (and-assoc (eqb a 0) (eqb b 0) (allZero bytes))
+    ∙ ap (λ (t : Bool). t && allZero bytes) (and-comm (eqb a 0) (eqb b 0))
+    ∙ and-assoc (eqb b 0) (eqb a 0) (allZero bytes)
+
+-- a sum is 0 where both its parts are
+sum-zero : (a b : ℕ) → eqb (a + b) 0 ≡ eqb b 0 && eqb a 0
+sum-zero zero b = rw (zero-add b, and-true)
+sum-zero (suc a) b = ne-eqb (suc a + b) 0 (λ e. omega (arith, e)) ∙ sym (rw (ne-eqb (suc a) 0 (λ e. omega (arith, e)), and-false))
+
+pub zeros-begin : (bytes : List ℕ) → eqb 0 0 ≡ allZero (take 0 bytes)
+unfolding every
+zeros-begin bytes = refl
+
+pub zeros-on : (bytes : List ℕ) (k sum : ℕ) {b : ℕ} → k < length bytes → eqb sum 0 ≡ allZero (take k bytes) → b ≡ getD bytes k 0 →
+    eqb (sum + b) 0 ≡ allZero (take (k + 1) bytes)
+zeros-on bytes k sum {b} h so is =
+    sum-zero sum b
+    ∙ (λ i. eqb (is i) 0 && so i)
+    ∙ sym (zero-snoc (take k bytes) (getD bytes k 0))
+    ∙ ap allZero (sym (rw (add-one k) (take-suc bytes k 0 h)))

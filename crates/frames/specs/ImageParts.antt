@@ -7,6 +7,7 @@ use lib.Dec.{eqb}
 use lib.ListN.{length, getD}
 use Rattle.records.specs.declared.band.QoSClass.{QoSClass}
 use Rattle.queue.specs.Rules.{count}
+use Rattle.scheduler.specs.Accepted.{every}
 use Rattle.scheduler.specs.State.{State, Queues, ofBand}
 use Rattle.frames.specs.Fits.{HasImage}
 use Rattle.frames.specs.Image.{imageLength, queueAt, lengthByte, imageOf}
@@ -23,6 +24,12 @@ pub record WritesImage (s : State) (before after : List ℕ) (r : Bool) : Type 0
 -- queues of at most 64 entries, as an accepted state has
 abbrev pub Short : Queues → Type 0
 Short q = (band : QoSClass) → length (ofBand q band) ≤ 64
+
+-- ---- unused bytes
+
+-- every byte is 0
+abbrev pub allZero : List ℕ → Bool
+allZero bytes = every (λ b. eqb b 0) bytes
 
 -- ---- counting the entries of each slot
 

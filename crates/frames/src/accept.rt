@@ -5,8 +5,9 @@ ghost use lib.ListN.{length};
 ghost use Rattle.scheduler.specs.Accepted.{every, everyBelow, readyOf, onceIfReady, standsOnce};
 ghost use Rattle.scheduler.specs.State.{bandOrder, task, queue};
 ghost use Rattle.frames.specs.Image.{imageLength, queueAt, lengthByte, stateAt};
-ghost use Rattle.frames.specs.AcceptedImage.{acceptsImage, slotFits, placeFits, bandFits, coreFits};
-ghost use Rattle.frames.specs.ImageParts.{LengthsFit, AtMost, Counted};
+ghost use Rattle.frames.specs.AcceptedImage.{acceptsImage, slotFits, bandFits, coreFits};
+ghost use Rattle.frames.specs.ImageParts.{allZero, LengthsFit, AtMost, Counted};
+use crate::bytes::wide;
 use crate::fields::band_in;
 use crate::fields::is_ready;
 use crate::fields::may_hold;
@@ -14,6 +15,7 @@ use crate::fields::record_fits;
 use crate::layout::HOLDERS_AT;
 use crate::layout::IMAGE_BYTES;
 use crate::parts::length_byte;
+use crate::parts::queue_at;
 use crate::parts::record_at;
 use crate::parts::slot_byte;
 use records::MAX_CPUS;
@@ -83,35 +85,24 @@ fn bands_fit(image: &[u8]) -> bool
     band_fits(image, QoSClass::Background)
 }
 
-// Whether a queue has at most 64 entries, and each of its 64 places fits.
+// Whether a queue has at most 64 entries, each is a Ready slot of the band, and the places behind them are unused and 0.
 fn band_fits(image: &[u8], band: QoSClass) -> bool
     requires { ⌜ length (now image) ≡ imageLength ⌝ }
     ensures { λ r. ⌜ r ≡ bandFits (now (image .entry)) band ⌝ }
 {
-    if length_byte(image, band) > MAX_TASKS {
+    let len = length_byte(image, band);
+    if len > MAX_TASKS {
         return false;
     }
     let mut place = 0;
-    while place < MAX_TASKS {
-        if !place_fits(image, band, place) {
+    while place < len {
+        if !is_waiting(image, band, slot_byte(image, band, place)) {
             return false;
         }
         place += 1;
     }
-    true
-}
-
-// Whether a place of a queue holds an entry, or is unused and 0.
-fn place_fits(image: &[u8], band: QoSClass, place: usize) -> bool
-    requires { ⌜ length (now image) ≡ imageLength ⌝ }
-    requires { ⌜ place < 64 ⌝ }
-    ensures { λ r. ⌜ r ≡ placeFits (now (image .entry)) band place ⌝ }
-{
-    let slot = slot_byte(image, band, place);
-    if place < length_byte(image, band) {
-        return is_waiting(image, band, slot);
-    }
-    slot == 0
+    let at = queue_at(band) + 1;
+    all_zero(&image[at + place..at + MAX_TASKS])
 }
 
 // Whether a number is a Ready slot of the band.
@@ -127,6 +118,20 @@ fn is_waiting(image: &[u8], band: QoSClass, slot: usize) -> bool
         return false;
     }
     band_in(record).code() == band.code()
+}
+
+// Whether every byte is 0: by their sum, with no way out before the end, so that many bytes are added at a time.
+fn all_zero(bytes: &[u8]) -> bool
+    requires { ⌜ length (now bytes) ≤ 64 ⌝ }
+    ensures { λ r. ⌜ r ≡ allZero (now (bytes .entry)) ⌝ }
+{
+    let mut sum = 0;
+    let mut k = 0;
+    while k < bytes.len() {
+        sum += wide(bytes[k]);
+        k += 1;
+    }
+    sum == 0
 }
 
 // Whether every Ready slot stands in the queues once: each slot's entries are counted in one pass over the queues.

@@ -99,7 +99,7 @@ fn put_all(bytes: &[u8], out: &mut [u8], at: usize)
 }
 
 // A byte as a number of 64 bits.
-fn wide(byte: u8) -> u64
+pub(crate) fn wide(byte: u8) -> u64
     ensures { λ r. ⌜ (r ≡ byte) × (r < 256) ⌝ }
 {
     byte as u64
