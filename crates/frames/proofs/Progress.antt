@@ -10,17 +10,20 @@ use borrow.Author.Tests.{not-true, not-false, eqb-true, eqb-false, lt-ltb, le-lt
 use lib.Dec.{eqb}
 use lib.ListN.{length, take, drop, set, length-append, length-drop, drop-of-length-le}
 use lib.Seq.{sets, length-sets, drop-drop}
+use Rattle.scheduler.specs.declared.answer.Answer.{Answer}
 use Rattle.scheduler.specs.declared.scheduler.QoSScheduler.{QoSScheduler}
 use Rattle.scheduler.specs.State.{State}
 use Rattle.scheduler.specs.Scheduler.{abs, Valid}
-use Rattle.frames.specs.declared.lines.Told.{Told}
+use Rattle.frames.specs.Answer.{answerBytes}
+use Rattle.frames.specs.Bytes.{Puts}
 use Rattle.frames.specs.Hex.{toHex}
-use Rattle.frames.specs.Lines.{newline, lineOf, saidTo, lineText, pieces, closed, answerTo, stateAfter, Reached, stop, first, answeredInRoom, Tells, Answers}
+use Rattle.frames.specs.Lines.{newline, lineOf, noFrame, saidTo, lineText, pieces, closed, answerTo, stateAfter, Reached, stop, first, answeredInRoom, Answers}
 use Rattle.frames.proofs.Cuts.{line-within, pieceEnd, rest, end-is}
 use Rattle.frames.proofs.Digits.{length-toHex}
 use Rattle.frames.proofs.Onward.{first-none, first-first, answered-on, held-line, held-room}
-use Rattle.frames.proofs.Sizes.{said-fits}
+use Rattle.frames.proofs.Sizes.{answer-fits}
 use Rattle.frames.proofs.Stores.{sets-append, take-sets}
+use Rattle.frames.proofs.Tellings.{Makes}
 use Rattle.frames.proofs.Texts.{length-lineText}
 
 -- ---- one answer
@@ -32,18 +35,25 @@ unfolding lineText
 line-stored out at bytes is =
     (λ i. set (is i) (at + sym (length-toHex bytes) i) newline) ∙ sym (sets-append out at (toHex bytes) (newline ∷ []))
 
+-- the digits of the refusal, in full
+pub no-frame-stored : (out : List ℕ) (at : ℕ) → sets out at (48 ∷ 57 ∷ 102 ∷ 102 ∷ 102 ∷ 102 ∷ 10 ∷ []) ≡ sets out at (lineText noFrame)
+unfolding lineText toHex
+no-frame-stored out at = refl
+
 -- the buffer of an answer, once it has room for every answer
-module _ {line before after : List ℕ} {s : QoSScheduler} {r : Told} (t : Tells line s before after r) where
-  pub told-small : r .length ≤ 51
-  told-small = omega (arith, t .length-is, said-fits line (abs s))
+module _ (a : Answer) {before after : List ℕ} {n : ℕ} (puts : Puts (answerBytes a) 0 before after n) where
+  pub put-small : n ≤ 51
+  put-small = omega (arith, puts .length-is, answer-fits a)
 
   module _ (room : length before ≡ 51) where
-    pub told-bytes : take (r .length) after ≡ saidTo line (abs s) .bytes
-    told-bytes =
-        (λ i. take (t .length-is i) (t .buffer-is i)) ∙ take-sets before (saidTo line (abs s) .bytes) (omega (arith, said-fits line (abs s)))
+    pub put-bytes : take n after ≡ answerBytes a
+    put-bytes = (λ i. take (puts .length-is i) (puts .buffer-is i)) ∙ take-sets before (answerBytes a) (omega (arith, answer-fits a))
 
-    pub told-length : r .length ≡ length (take (r .length) after)
-    told-length = t .length-is ∙ sym (ap length told-bytes)
+    pub put-length : n ≡ length (take n after)
+    put-length = puts .length-is ∙ sym (ap length put-bytes)
+
+    pub put-stored : (out : List ℕ) (at : ℕ) {out′ : List ℕ} → out′ ≡ sets out at (lineText (take n after)) → out′ ≡ sets out at (lineText (answerBytes a))
+    put-stored out at e = e ∙ ap (λ (l : List ℕ). sets out at (lineText l)) put-bytes
 
 -- ---- some answers
 
@@ -125,26 +135,23 @@ module _ {last : Bool} {input before : List ℕ} {start : QoSScheduler} {out : L
     due (inl inside) = (λ i. last || is-closed inside i) ∙ or-true last
     due (inr is-last) = λ i. not-false last is-last i || closed here
 
-    module _ {buffer after : List ℕ} {r : Told} (told : Tells line state buffer after r) where
-      abbrev answer : List ℕ
-      answer = lineText (saidTo line (abs state) .bytes)
-
-      answer-is : answerTo here (abs state) ≡ answer
+    module _ {bytes : List ℕ} {next : QoSScheduler} {n : ℕ} (made : Makes line state bytes next) (size : n ≡ length bytes) where
+      answer-is : answerTo here (abs state) ≡ lineText bytes
       unfolding answerTo
-      answer-is = ap (λ (l : List ℕ). lineText (saidTo l (abs state) .bytes)) (sym is)
+      answer-is = ap (λ (l : List ℕ). lineText (saidTo l (abs state) .bytes)) (sym is) ∙ ap lineText (sym (made .bytes-are))
 
-      length-answer : length (answerTo here (abs state)) ≡ 2 * r .length + 1
-      length-answer = omega (arith, ap length answer-is, length-lineText (saidTo line (abs state) .bytes), told .length-is)
+      length-answer : length (answerTo here (abs state)) ≡ 2 * n + 1
+      length-answer = omega (arith, ap length answer-is, length-lineText bytes, size)
 
       -- the answer has no room
-      pub ended-room : length out - written < 2 * r .length + 1 → Ended
+      pub ended-room : length out - written < 2 * n + 1 → Ended
       ended-room small = ended (held-room last here room (abs state) (omega (arith, length-answer, t .length-is)))
 
       -- ---- a turn
 
-      next-state : stateAfter here (abs state) ≡ abs (r .state)
+      next-state : stateAfter here (abs state) ≡ abs next
       unfolding stateAfter
-      next-state = ap (λ (l : List ℕ). saidTo l (abs state) .state) (sym is) ∙ sym (told .state-is)
+      next-state = ap (λ (l : List ℕ). saidTo l (abs state) .state) (sym is) ∙ sym (made .state-is)
 
       module _ {used′ : ℕ} (used-is : used′ ≡ min (used + length line + 1) (length input)) where
         next-used : used + pieceEnd here ≡ used′
@@ -153,27 +160,24 @@ module _ {last : Bool} {input before : List ℕ} {start : QoSScheduler} {out : L
         next-rest : rest here ≡ drop used′ input
         next-rest = drop-drop (pieceEnd here) used input ∙ ap (λ (k : ℕ). drop k input) next-used
 
-        pub turn : {out′ : List ℕ} → used < length input → (eqb (used + length line) (length input) ≡ false) ⊎ (not last ≡ false) → length buffer ≡ 51 →
-            2 * r .length + 1 ≤ length out - written → out′ ≡ sets out written (lineText (take (r .length) after)) →
-            Answering last input before start out′ (r .state) used′ (written + (2 * r .length + 1))
-        turn low why size-is fits out-is =
-            let next-room : room - length (answerTo here (abs state)) ≡ length before - (written + (2 * r .length + 1)) = omega (arith, length-answer) in
+        pub turn : {out′ : List ℕ} → used < length input → (eqb (used + length line) (length input) ≡ false) ⊎ (not last ≡ false) →
+            2 * n + 1 ≤ length out - written → out′ ≡ sets out written (lineText bytes) →
+            Answering last input before start out′ next used′ (written + (2 * n + 1))
+        turn low why fits out-is =
+            let next-room : room - length (answerTo here (abs state)) ≡ length before - (written + (2 * n + 1)) = omega (arith, length-answer) in
             let place : written ≡ 0 + length (t .done) = omega (arith, t .written-is) in
             let some : 0 < length here = omega (arith, length-drop used input) in
             record {
-              done = t .done ++ answer;
+              done = t .done ++ lineText bytes;
               whole =
                   t .whole
                   ∙ ap (first (t .done) used) (answered-on last here room (abs state) some (due why) (omega (arith, length-answer, t .length-is)))
                   ∙ first-first (t .done) (answerTo here (abs state)) used (pieceEnd here) _
                   ∙ (λ i. first (t .done ++ answer-is i) (next-used i) (answeredInRoom last (next-room i) (next-state i) (pieces (next-rest i))));
-              written-is = omega (arith, t .written-is, length-append (t .done) answer, length-answer, ap length answer-is);
-              out-is =
-                  out-is
-                  ∙ (λ i. sets (t .out-is i) (place i) (lineText (told-bytes told size-is i)))
-                  ∙ sym (sets-append before 0 (t .done) answer);
-              length-is = ap length out-is ∙ length-sets out written (lineText (take (r .length) after)) ∙ t .length-is;
-              valid = told .valid;
+              written-is = omega (arith, t .written-is, length-append (t .done) (lineText bytes), length-answer, ap length answer-is);
+              out-is = out-is ∙ (λ i. sets (t .out-is i) (place i) (lineText bytes)) ∙ sym (sets-append before 0 (t .done) (lineText bytes));
+              length-is = ap length out-is ∙ length-sets out written (lineText bytes) ∙ t .length-is;
+              valid = made .valid;
               written-in = omega (arith, t .length-is);
               used-in = omega (arith, used-is);
             }

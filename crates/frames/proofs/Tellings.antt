@@ -1,6 +1,6 @@
--- What a line is told: its call, and the promise of `answer_line` from what was read, done and stored.
+-- What a line is told: its call, what that makes of a state, and the promise of `answer_line` from what was stored.
 -- Assumes nothing.
-use mathlib.Core.Path.{_≡_, sym, ap, _∙_}
+use mathlib.Core.Path.{_≡_, refl, sym, ap, _∙_}
 use mathlib.Core.Bool.{Bool, true, false, cond}
 use mathlib.Core.List.{List, _++_}
 use Prim.Native.Nat.{ℕ, _/_, _≤_}
@@ -20,7 +20,7 @@ use Rattle.frames.specs.Frame.{frameCall}
 use Rattle.frames.specs.Hex.{isHex, fromHex}
 use Rattle.frames.proofs.Digits.{length-fromHex}
 use Rattle.frames.proofs.Stores.{take-sets}
-use Rattle.frames.specs.Lines.{lineCall, Said, said, saidTo, Tells}
+use Rattle.frames.specs.Lines.{lineCall, Said, noFrame, said, saidTo, Tells}
 
 -- ---- the call of a line
 
@@ -39,31 +39,44 @@ read-back line o e room =
     ∙ ap (λ (n : ℕ). take n (sets o 0 (fromHex line))) (sym (length-fromHex line))
     ∙ take-sets o (fromHex line) (omega (arith, room, length-fromHex line))
 
--- ---- what it is told
+-- ---- what it makes
+
+-- what a line makes of a state: these bytes, and the state that is next
+pub record Makes (line : List ℕ) (s : QoSScheduler) (bytes : List ℕ) (next : QoSScheduler) : Type 0 where
+  pub valid : Valid next
+  pub state-is : abs next ≡ saidTo line (abs s) .state
+  pub bytes-are : bytes ≡ saidTo line (abs s) .bytes
 
 said-as : (line : List ℕ) (s : State) {c : CallOption} → lineCall line ≡ c → saidTo line s ≡ said c s
 unfolding saidTo
 said-as line s e = ap (λ c. said c s) e
 
-pub tells-refused : {line : List ℕ} {s : QoSScheduler} {before after : List ℕ} → lineCall line ≡ None → Valid s
-    → after ≡ sets before 0 (bytesOf 1 9 ++ bytesOf 2 65535) → Tells line s before after (record { state = s; length = 3 })
-unfolding bytesOf
-tells-refused {line} {s} {before} is valid put =
+pub makes-refusal : {line : List ℕ} {s : QoSScheduler} → lineCall line ≡ None → Valid s → Makes line s noFrame s
+makes-refusal {line} {s} is valid =
     let told = sym (said-as line (abs s) is) in
-    record {
-      valid = valid;
-      state-is = ap (λ (r : Said). r .state) told;
-      length-is = ap (λ (r : Said). length (r .bytes)) told;
-      buffer-is = put ∙ ap (λ (r : Said). sets before 0 (r .bytes)) told;
-    }
+    record { valid = valid; state-is = ap (λ (r : Said). r .state) told; bytes-are = ap (λ (r : Said). r .bytes) told }
 
-pub tells-done : {line : List ℕ} {s : QoSScheduler} {before after : List ℕ} {call : Call} {r : Reply} {n : ℕ} → lineCall line ≡ Some call → Meets call s r
-    → Puts (answerBytes (r .answer)) 0 before after n → Tells line s before after (record { state = r .state; length = n })
-tells-done {line} {s} {before} is meets puts =
+pub makes-reply : {line : List ℕ} {s : QoSScheduler} {call : Call} {r : Reply} → lineCall line ≡ Some call → Meets call s r →
+    Makes line s (answerBytes (r .answer)) (r .state)
+makes-reply {line} {s} is meets =
     let told = sym (said-as line (abs s) is) in
     record {
       valid = meets .valid;
       state-is = meets .state-is ∙ ap (λ (r : Said). r .state) told;
-      length-is = puts .length-is ∙ ap (λ a. length (answerBytes a)) (meets .answer-is) ∙ ap (λ (r : Said). length (r .bytes)) told;
-      buffer-is = puts .buffer-is ∙ ap (λ a. sets before 0 (answerBytes a)) (meets .answer-is) ∙ ap (λ (r : Said). sets before 0 (r .bytes)) told;
+      bytes-are = ap answerBytes (meets .answer-is) ∙ ap (λ (r : Said). r .bytes) told;
     }
+
+-- ---- what it is told
+
+pub puts-refusal : {before after : List ℕ} → after ≡ sets before 0 (bytesOf 1 9 ++ bytesOf 2 65535) → Puts noFrame 0 before after 3
+unfolding bytesOf
+puts-refusal put = record { buffer-is = put; length-is = refl }
+
+pub tells : {line : List ℕ} {s : QoSScheduler} {bytes : List ℕ} {next : QoSScheduler} {before after : List ℕ} {n : ℕ} → Makes line s bytes next
+    → Puts bytes 0 before after n → Tells line s before after (record { state = next; length = n })
+tells {before = before} made puts = record {
+  valid = made .valid;
+  state-is = made .state-is;
+  length-is = puts .length-is ∙ ap length (made .bytes-are);
+  buffer-is = puts .buffer-is ∙ ap (sets before 0) (made .bytes-are);
+}

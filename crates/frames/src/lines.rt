@@ -3,8 +3,9 @@ ghost use mathlib.Core.Path.{_≡_};
 ghost use Prim.Native.Nat.{_+_, _*_, _≤_, min};
 ghost use lib.ListN.{length, drop};
 ghost use lib.Seq.{sets};
-ghost use Rattle.frames.specs.Lines.{lineOf, lineCall, lineText, Tells, Answers};
+ghost use Rattle.frames.specs.Lines.{lineOf, lineCall, noFrame, lineText, Tells, Answers};
 ghost use Rattle.scheduler.specs.Scheduler.{Valid};
+use crate::bytes::put_bytes;
 use crate::bytes::put_number;
 use crate::decode::CallOption;
 use crate::decode::read_frame;
@@ -30,6 +31,9 @@ pub(crate) const LINE_MAX: usize = 2 * FRAME_MAX;
 
 // The longest answer as a line of text, with its newline.
 pub const ANSWER_LINE_MAX: usize = 2 * ANSWER_MAX + 1;
+
+// The answer to a line that is no frame, as a line of text, with its newline.
+const NO_FRAME_LINE: usize = 2 * VALUE_AT + 1;
 
 // What a line was answered: the state after it, and how many bytes the answer has, also where the buffer is shorter.
 pub struct Told {
@@ -102,7 +106,8 @@ pub fn answer_line(state: QoSScheduler, line: &[u8], out: &mut [u8]) -> Told
 
 // The answers to a text's lines, each closed by a newline, at the front of a buffer, in order and as many as have room;
 // bytes behind them stay. Where the text is not the last, a line that no newline closes is left for when more of it is
-// there. ANSWER_LINE_MAX bytes have room for any one line's answer.
+// there. ANSWER_LINE_MAX bytes have room for any one line's answer. The calls are made here, since by `answer_line` the state
+// would be copied twice more for each.
 pub fn answer_text(state: QoSScheduler, input: &[u8], last: bool, out: &mut [u8]) -> Answered
     requires { ⌜ Valid state ⌝ }
     ensures { λ r. ⌜ Answers last state (now (input .entry)) (now (out .entry)) (now (out .exit)) r ⌝ }
@@ -116,17 +121,28 @@ pub fn answer_text(state: QoSScheduler, input: &[u8], last: bool, out: &mut [u8]
         if !last && end == input.len() {
             break;
         }
-        let mut answer = [0u8; ANSWER_MAX];
-        let told = answer_line(state, line, &mut answer);
-        let n = told.length;
+        let past = past_newline(input, end);
+        let CallOption::Some(call) = read_line(line) else {
+            if out.len() - written < NO_FRAME_LINE {
+                break;
+            }
+            put_no_frame(out, written);
+            used = past;
+            written += NO_FRAME_LINE;
+            continue;
+        };
+        let reply = state.apply(call);
+        let answer = reply.answer;
+        let mut bytes = [0u8; ANSWER_MAX];
+        let n = write_answer(answer, &mut bytes);
         let size = 2 * n + 1;
         if out.len() - written < size {
             break;
         }
-        put_line(&answer[..n], out, written);
-        let next = told.state;
+        put_line(&bytes[..n], out, written);
+        let next = reply.state;
         state = next;
-        used = past_newline(input, end);
+        used = past;
         written += size;
     }
     Answered {
@@ -144,6 +160,14 @@ fn put_line(answer: &[u8], out: &mut [u8], at: usize)
     put_hex(answer, out, at);
     let end = at + 2 * answer.len();
     out[end] = NEWLINE;
+}
+
+// The answer to a line that is no frame, as a line of text, from `at` on.
+fn put_no_frame(out: &mut [u8], at: usize)
+    requires { ⌜ at + 7 ≤ length (now out) ⌝ }
+    ensures { λ _. ⌜ now (out .exit) ≡ sets (now (out .entry)) at (lineText noFrame) ⌝ }
+{
+    put_bytes(b"09ffff\n", out, at);
 }
 
 // The place behind a line's end: past its newline, if it has one.
