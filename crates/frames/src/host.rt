@@ -1,31 +1,23 @@
 // What a host kernel calls: a new image, and a frame on an image with its answer in a buffer; and any call on an image.
 ghost use mathlib.Core.Path.{_≡_};
-ghost use lib.ListN.{length};
-ghost use Rattle.scheduler.specs.State.{holder};
-ghost use Rattle.scheduler.specs.Touched.{namedSlot, valueSlot, answeredSlot};
 ghost use Rattle.frames.specs.AcceptedImage.{AcceptedImage};
 ghost use Rattle.frames.specs.Host.{refusalReturned, refusalOf, onImage, callOnImage, Answers, made, hostNew, hosted, hostStep};
-ghost use Rattle.frames.specs.Image.{imageLength, stateAt};
 use crate::decode::CallOption;
 use crate::decode::read_frame;
 use crate::encode::ANSWER_MAX;
-use crate::encode::slot_number;
 use crate::encode::write_answer;
 use crate::image::update_image;
 use crate::image::write_image;
-use crate::layout::HOLDERS_AT;
 use crate::read::ImageStatus;
 use crate::read::check_image;
 use crate::read::state_at;
 use crate::refusal::HostError;
-use records::MAX_CPUS;
+use crate::touched::answered_slot;
+use crate::touched::named_slot;
 use scheduler::Answer;
 use scheduler::Call;
-use scheduler::NO_HOLDER;
-use scheduler::PickOption;
 use scheduler::QoSScheduler;
 use scheduler::Status;
-use scheduler::Value;
 
 // What a call on an image came to.
 pub enum ImageAnswer {
@@ -37,9 +29,6 @@ pub enum ImageAnswer {
 
 // What is added to a refusal's number, so that a host can tell it from an answer's length.
 const REFUSED: u64 = 256;
-
-// What stands for no slot.
-const NONE: usize = NO_HOLDER as usize;
 
 // The image of a new scheduler, for a host that begins: 0, or 256 and 7 where there is no room for it, or too much. Any bytes
 // will do. All IMAGE_BYTES of them are written; bytes of any other number are left as they were.
@@ -119,84 +108,5 @@ fn call_on_accepted(image: &mut [u8], call: Call) -> Answer
             update_image(next, named, answered_slot(answer), image);
             answer
         }
-    }
-}
-
-// The slot that a call names, or that its core holds; 255 for none.
-fn named_slot(call: Call, image: &[u8]) -> usize
-    requires { ⌜ length (now image) ≡ imageLength ⌝ }
-    ensures { λ r. ⌜ r ≡ namedSlot call (stateAt (now (image .entry))) ⌝ }
-{
-    match call {
-        Call::Create {
-            tid: _,
-            qos: _,
-            context_handle: _,
-            cr3: _,
-            rsp0: _,
-        } => NONE,
-        Call::Affinity { slot, mask: _ } => slot.0,
-        Call::Terminate(slot) => slot.0,
-        Call::Block(slot) => slot.0,
-        Call::Wake(slot) => slot.0,
-        Call::Enqueue(slot) => slot.0,
-        Call::Schedule(_) => NONE,
-        Call::Tick {
-            core,
-            elapsed_us: _,
-        } => holder_in(image, core),
-        Call::Yield(core) => holder_in(image, core),
-        Call::Handoff(core) => holder_in(image, core),
-        Call::Plan {
-            core,
-            elapsed_us: _,
-        } => holder_in(image, core),
-        Call::CanRunOnCore { slot: _, core: _ } => NONE,
-        Call::TaskIndexForTid(_) => NONE,
-        Call::Task(_) => NONE,
-        Call::CurrentTaskOnCpu(_) => NONE,
-        Call::SystemTicksUs => NONE,
-        Call::Holder(_) => NONE,
-    }
-}
-
-// A core's holder, or 255; a core of 64 and above has none.
-fn holder_in(image: &[u8], core: usize) -> usize
-    requires { ⌜ length (now image) ≡ imageLength ⌝ }
-    ensures { λ r. ⌜ r ≡ holder (stateAt (now (image .entry))) core ⌝ }
-{
-    if core >= MAX_CPUS {
-        return NONE;
-    }
-    image[HOLDERS_AT + core] as usize
-}
-
-// The slot that an answer tells of: its pick, or else its value; 255 for none.
-fn answered_slot(answer: Answer) -> usize
-    ensures { λ r. ⌜ r ≡ answeredSlot answer ⌝ }
-{
-    let pick = answer.pick;
-    let value = answer.value;
-    match pick {
-        PickOption::Some(picked) => {
-            let slot = picked.slot;
-            slot.0
-        }
-        PickOption::None => value_slot(value),
-    }
-}
-
-// A value that is a slot; 255 for every other value.
-fn value_slot(value: Value) -> usize
-    ensures { λ r. ⌜ r ≡ valueSlot value ⌝ }
-{
-    match value {
-        Value::Slot(slot) => slot_number(slot) as usize,
-        Value::Nothing => NONE,
-        Value::Core(_) => NONE,
-        Value::Plan(_) => NONE,
-        Value::Flag(_) => NONE,
-        Value::Task(_) => NONE,
-        Value::Micros(_) => NONE,
     }
 }

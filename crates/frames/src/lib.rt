@@ -13,6 +13,7 @@
 //   image    a scheduler's image, written into a lent buffer
 //   accept   whether bytes are an image that is accepted
 //   read     the scheduler that an image stands for
+//   touched  the slots whose records a call can change
 //   host     a call on an image, and the two entries for a host kernel
 //   refusal  what is refused before a call is made
 //
@@ -33,6 +34,7 @@ mod lines;
 mod parts;
 mod read;
 mod refusal;
+mod touched;
 
 pub use accept::accepts_image;
 pub use blocks::kept_from;

@@ -1,6 +1,6 @@
 -- The machine values of a state, of an answer and of a call's other arguments, as a proof that walks code needs them. A state has one, which may
--- stay a name there, and it may be stored where the code spells the type in its own way. Spelled out, a whole state, or the type of one, is too
--- large to compare. At the end, the place of a local by where it lies.
+-- stay a name there, and it may be stored where the code spells the type in its own way. Spelled out, a whole state, or the type of one, takes
+-- long to compare. At the end, the place of a local by where it lies.
 -- Assumes nothing.
 use mathlib.Core.Path.{_≡_, refl, sym, subst}
 use Prim.Native.Nat.{ℕ, _<_, _^_}

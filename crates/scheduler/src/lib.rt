@@ -4,7 +4,7 @@
 //   answer      Answer: status, the pick made, and the value; plans and what may be missing
 //   scheduler   QoSScheduler: the state, by value; new; apply, which does any call
 //   waking      create, affinity, terminate, block, wake, enqueue
-//   picking     schedule
+//   picking     rule P, and schedule; how it is told who is to run
 //   ticking     tick, yield, handoff, plan
 //   queries     what changes nothing
 //   lent        block and tick on a lent state, which they change

@@ -5,8 +5,8 @@ use native.Mathlib.Omega.{arith}
 use borrow.Author.Needs.{needs}
 use Rattle.frames.specs.Image.{holdersPlace}
 use Rattle.frames.proofs.Images.{holder-byte, holder-past}
-use Rattle.frames.proofs.host.holder_in.Statement.{statement}
-use Rattle.frames.proofs.host.holder_in.Tie as tie
+use Rattle.frames.proofs.touched.holder_in.Statement.{statement}
+use Rattle.frames.proofs.touched.holder_in.Tie as tie
 
 returns : tie.Need-returns
 returns c =

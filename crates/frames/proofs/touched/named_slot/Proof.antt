@@ -5,8 +5,8 @@ use borrow.Author.Needs.{needs}
 use Rattle.scheduler.specs.declared.call.Call.{Call}
 use Rattle.scheduler.specs.State.{State}
 use Rattle.scheduler.specs.Touched.{namedSlot}
-use Rattle.frames.proofs.host.named_slot.Statement.{statement}
-use Rattle.frames.proofs.host.named_slot.Tie as tie
+use Rattle.frames.proofs.touched.named_slot.Statement.{statement}
+use Rattle.frames.proofs.touched.named_slot.Tie as tie
 
 -- what is named by the call that this one is found to be
 same-call : (s : State) {call found : Call} {r : ℕ} → call ≡ found → r ≡ namedSlot found s → r ≡ namedSlot call s
