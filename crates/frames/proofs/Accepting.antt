@@ -1,7 +1,7 @@
 -- How the functions of src/accept.rt meet their contracts: what the code reads in an image's bytes is what the image's state has, and a law for each
 -- way out: of slots, cores and queues, and of the whole image. Assumes nothing.
 use mathlib.Core.Path.{_≡_, sym, ap, _∙_}
-use mathlib.Core.Bool.{Bool, true, false, not, _&&_, and-false, and-true}
+use mathlib.Core.Bool.{Bool, true, false, not, _&&_, and-false, and-true, and-assoc, and-comm}
 use mathlib.Core.Logic.{Iff·rfl}
 use mathlib.Core.List.{List}
 use Prim.Native.Nat.{ℕ, zero, suc, _+_, _-_, _≤_, _<_}
@@ -204,19 +204,16 @@ module _ (image : List ℕ) where
     bytes-are : every (λ b. ltb b 256) image ≡ true
     bytes-are = each (λ b. less {a = b} {b = 256}) 0 image .1 (λ i _. small i)
 
-    accepts-is : acceptsImage image ≡ slots && queues && once && cores
+    -- in the order in which the code asks
+    accepts-is : acceptsImage image ≡ queues && (slots && once) && cores
     unfolding acceptsImage
-    accepts-is = rw (eq-eqb (length image) imageLength whole, bytes-are)
-
-    pub accepts-slots : {r : Bool} → r ≡ slots → not r ≡ true → false ≡ acceptsImage image
-    accepts-slots e h = sym (accepts-is ∙ rw (fails e h))
+    accepts-is = rw (eq-eqb (length image) imageLength whole, bytes-are, and-comm slots queues, and-assoc queues slots once)
 
     pub accepts-queues : {r : Bool} → r ≡ queues → not r ≡ true → false ≡ acceptsImage image
-    accepts-queues e h = sym (accepts-is ∙ rw (fails e h, and-false))
+    accepts-queues e h = sym (accepts-is ∙ rw (fails e h))
 
-    pub accepts-once : {r : Bool} → r ≡ once → not r ≡ true → false ≡ acceptsImage image
-    accepts-once e h = sym (accepts-is ∙ rw (fails e h, and-false))
+    pub accepts-slots : {r : Bool} → r ≡ slots && once → not r ≡ true → false ≡ acceptsImage image
+    accepts-slots e h = sym (accepts-is ∙ rw (fails e h, and-false))
 
-    pub accepts-rest : {a b c r : Bool} → a ≡ slots → not a ≡ false → b ≡ queues → not b ≡ false → c ≡ once → not c ≡ false → r ≡ cores →
-        r ≡ acceptsImage image
-    accepts-rest a ha b hb c hc r = r ∙ sym (accepts-is ∙ rw (holds a ha, holds b hb, holds c hc))
+    pub accepts-rest : {a b r : Bool} → a ≡ queues → not a ≡ false → b ≡ slots && once → not b ≡ false → r ≡ cores → r ≡ acceptsImage image
+    accepts-rest a ha b hb r = r ∙ sym (accepts-is ∙ rw (holds a ha, holds b hb))

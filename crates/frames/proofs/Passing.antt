@@ -52,6 +52,17 @@ module _ {test : ℕ → Bool} {k : ℕ} (so : Passing test k) where
   pub passing-ended : 64 ≤ k → true ≡ everyBelow 64 test
   passing-ended h = sym (subst (λ (n : ℕ). everyBelow n test ≡ true) (omega (arith, so .inside)) (so .so-far))
 
+-- two tests in one loop: both are to pass, and one that fails is enough
+module _ {a b : ℕ → Bool} {k : ℕ} (so : Passing a k × Passing b k) where
+  pub first-failed : {r : Bool} → k < 64 → r ≡ a k → not r ≡ true → false ≡ everyBelow 64 a && everyBelow 64 b
+  first-failed h is fail = ap (λ (t : Bool). t && everyBelow 64 b) (passing-failed (so .0) h is fail)
+
+  pub second-failed : {r : Bool} → k < 64 → r ≡ b k → not r ≡ true → false ≡ everyBelow 64 a && everyBelow 64 b
+  second-failed h is fail = sym (and-false (everyBelow 64 a)) ∙ ap (λ (t : Bool). everyBelow 64 a && t) (passing-failed (so .1) h is fail)
+
+  pub both-ended : 64 ≤ k → true ≡ everyBelow 64 a && everyBelow 64 b
+  both-ended h = λ i. passing-ended (so .0) h i && passing-ended (so .1) h i
+
 -- ---- bytes that are to be 0
 
 pub zero-snoc : (bytes : List ℕ) (b : ℕ) → allZero (bytes ++ (b ∷ [])) ≡ eqb b 0 && allZero bytes

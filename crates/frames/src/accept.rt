@@ -1,5 +1,6 @@
 // Acceptance: whether bytes are an image that document 01 accepts, in time linear in their number.
 ghost use mathlib.Core.Path.{_≡_};
+ghost use mathlib.Core.Bool.{_&&_};
 ghost use Prim.Native.Nat.{_≤_, _<_};
 ghost use lib.ListN.{length};
 ghost use Rattle.scheduler.specs.Accepted.{every, everyBelow, readyOf, onceIfReady, standsOnce};
@@ -31,42 +32,13 @@ pub fn accepts_image(image: &[u8]) -> bool
     if image.len() != IMAGE_BYTES {
         return false;
     }
-    if !slots_fit(image) {
-        return false;
-    }
     if !bands_fit(image) {
         return false;
     }
-    if !ready_stand_once(image) {
+    if !slots_fit(image) {
         return false;
     }
     cores_fit(image)
-}
-
-// ---- the records
-
-// Whether every slot's record fits.
-fn slots_fit(image: &[u8]) -> bool
-    requires { ⌜ length (now image) ≡ imageLength ⌝ }
-    ensures { λ r. ⌜ r ≡ everyBelow 64 (slotFits (now (image .entry))) ⌝ }
-{
-    let mut slot = 0;
-    while slot < MAX_TASKS {
-        if !slot_fits(image, slot) {
-            return false;
-        }
-        slot += 1;
-    }
-    true
-}
-
-// Whether a slot's record fits.
-fn slot_fits(image: &[u8], slot: usize) -> bool
-    requires { ⌜ length (now image) ≡ imageLength ⌝ }
-    requires { ⌜ slot < 64 ⌝ }
-    ensures { λ r. ⌜ r ≡ slotFits (now (image .entry)) slot ⌝ }
-{
-    record_fits(record_at(image, slot))
 }
 
 // ---- the queues
@@ -134,11 +106,14 @@ fn all_zero(bytes: &[u8]) -> bool
     sum == 0
 }
 
-// Whether every Ready slot stands in the queues once: each slot's entries are counted in one pass over the queues.
-fn ready_stand_once(image: &[u8]) -> bool
+// ---- the slots
+
+// Whether every slot's record fits, and every Ready slot stands in the queues once. Each slot's entries are counted first, in one
+// pass over the queues; then both are asked of each slot in turn, so that the records are gone over once and not twice.
+fn slots_fit(image: &[u8]) -> bool
     requires { ⌜ length (now image) ≡ imageLength ⌝ }
     requires { ⌜ LengthsFit (now image) ⌝ }
-    ensures { λ r. ⌜ r ≡ everyBelow 64 (standsOnce (stateAt (now (image .entry)))) ⌝ }
+    ensures { λ r. ⌜ r ≡ (everyBelow 64 (slotFits (now (image .entry))) && everyBelow 64 (standsOnce (stateAt (now (image .entry))))) ⌝ }
 {
     let none = [0u8; MAX_TASKS];
     let first = counted(image, QoSClass::UserInteractive, none);
@@ -146,6 +121,9 @@ fn ready_stand_once(image: &[u8]) -> bool
     let counts = counted(image, QoSClass::Background, second);
     let mut slot = 0;
     while slot < MAX_TASKS {
+        if !slot_fits(image, slot) {
+            return false;
+        }
         if !stands_once(image, slot, counts[slot]) {
             return false;
         }
@@ -171,6 +149,15 @@ fn counted(image: &[u8], band: QoSClass, mut counts: [u8; MAX_TASKS]) -> [u8; MA
         }
     }
     counts
+}
+
+// Whether a slot's record fits.
+fn slot_fits(image: &[u8], slot: usize) -> bool
+    requires { ⌜ length (now image) ≡ imageLength ⌝ }
+    requires { ⌜ slot < 64 ⌝ }
+    ensures { λ r. ⌜ r ≡ slotFits (now (image .entry)) slot ⌝ }
+{
+    record_fits(record_at(image, slot))
 }
 
 // Whether a slot that stands in the queues so often is not Ready or stands there once.
