@@ -35,7 +35,7 @@ unfolding lineText
 line-stored out at bytes is =
     (λ i. set (is i) (at + sym (length-toHex bytes) i) newline) ∙ sym (sets-append out at (toHex bytes) (newline ∷ []))
 
--- the digits of the refusal, in full
+-- the refusal's line, byte for byte
 pub no-frame-stored : (out : List ℕ) (at : ℕ) → sets out at (48 ∷ 57 ∷ 102 ∷ 102 ∷ 102 ∷ 102 ∷ 10 ∷ []) ≡ sets out at (lineText noFrame)
 unfolding lineText toHex
 no-frame-stored out at = refl
@@ -46,14 +46,14 @@ module _ (a : Answer) {before after : List ℕ} {n : ℕ} (puts : Puts (answerBy
   put-small = omega (arith, puts .length-is, answer-fits a)
 
   module _ (room : length before ≡ 51) where
-    pub put-bytes : take n after ≡ answerBytes a
-    put-bytes = (λ i. take (puts .length-is i) (puts .buffer-is i)) ∙ take-sets before (answerBytes a) (omega (arith, answer-fits a))
+    pub put-front : take n after ≡ answerBytes a
+    put-front = (λ i. take (puts .length-is i) (puts .buffer-is i)) ∙ take-sets before (answerBytes a) (omega (arith, answer-fits a))
 
     pub put-length : n ≡ length (take n after)
-    put-length = puts .length-is ∙ sym (ap length put-bytes)
+    put-length = puts .length-is ∙ sym (ap length put-front)
 
     pub put-stored : (out : List ℕ) (at : ℕ) {out′ : List ℕ} → out′ ≡ sets out at (lineText (take n after)) → out′ ≡ sets out at (lineText (answerBytes a))
-    put-stored out at e = e ∙ ap (λ (l : List ℕ). sets out at (lineText l)) put-bytes
+    put-stored out at e = e ∙ ap (λ (l : List ℕ). sets out at (lineText l)) put-front
 
 -- ---- some answers
 
