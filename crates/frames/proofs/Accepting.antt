@@ -19,14 +19,13 @@ use Rattle.records.specs.Band.{IsBandCode}
 use Rattle.records.specs.State.{isState}
 use Rattle.records.proofs.Bands.{bandCode-small}
 use Rattle.scheduler.specs.Accepted.{every, everyBelow, recordFits, readyOf, onceIfReady, standsOnce, mayHold, holderFits}
-use Rattle.scheduler.specs.State.{noneByte, bandOrder, task, queue, holder}
+use Rattle.scheduler.specs.State.{noneByte, bandOrder, task, queue}
 use Rattle.scheduler.proofs.Says.{Says, less, at-most, both, each, bands}
 use Rattle.frames.specs.Bytes.{part}
 use Rattle.frames.specs.Image.{imageLength, queuePlace, holdersPlace, recordIn, recordAt, queueAt, lengthByte, slotByte, stateAt}
 use Rattle.frames.specs.AcceptedImage.{codesFit, slotFits, placeFits, bandFits, coreFits, acceptsImage}
 use Rattle.frames.specs.ImageParts.{allZero, LengthsFit}
-use Rattle.scheduler.proofs.Stored.{read-any}
-use Rattle.frames.proofs.Images.{task-read, task-past, queue-read}
+use Rattle.frames.proofs.Images.{task-read, task-past, queue-read, holder-byte}
 use Rattle.frames.proofs.AcceptedImages.{entry-read}
 use Rattle.frames.proofs.Passing.{Passing, zero-snoc, fails, holds}
 
@@ -51,12 +50,6 @@ module _ (image : List ℕ) where
   slot-read band place {at} h e =
       let there : at + 1 + place ≡ queuePlace band + suc place = omega (arith, e) in
       ap (λ (n : ℕ). getD image n 0) there ∙ sym (getD-part (queuePlace band) 65 image (suc place) 0 (omega arith))
-
-  -- a core's holder
-  holder-read : (core : ℕ) → length image ≡ imageLength → core < 64 → getD image (holdersPlace + core) 0 ≡ holder (stateAt image) core
-  unfolding stateAt
-  holder-read core whole h =
-      read-any image (holdersPlace + core) 0 noneByte (omega (arith, whole)) ∙ sym (getD-part holdersPlace 64 image core noneByte h)
 
 -- ---- a slot
 
@@ -93,7 +86,7 @@ module _ (image : List ℕ) (core : ℕ) (whole : length image ≡ imageLength) 
 
   core-is : coreFits image core ≡ holderFits (stateAt image) byte
   unfolding coreFits
-  core-is = ap (holderFits (stateAt image)) (sym (holder-read image core whole h))
+  core-is = ap (holderFits (stateAt image)) (sym (holder-byte image core whole h))
 
   pub core-none : byte ≡ noneByte → true ≡ coreFits image core
   core-none e = sym (core-is ∙ rw (eq-eqb byte noneByte e))
