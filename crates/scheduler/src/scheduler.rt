@@ -49,8 +49,21 @@ impl QoSScheduler {
         }
     }
 
-    // Any call or query, as the method for it does it. A query leaves the state as it was.
+    // Any call or query. The cores' reports, which are nearly all calls, are looked for first: what the code of the others
+    // needs would have each of them begin with a copy of the state.
     pub fn apply(self, call: Call) -> Reply
+        requires { ⌜ Valid self ⌝ }
+        ensures { λ r. ⌜ Meets call self r ⌝ }
+    {
+        match call {
+            Call::Tick { core, elapsed_us } => self.ticked(core, elapsed_us, Form::Slot),
+            Call::Plan { core, elapsed_us } => self.ticked(core, elapsed_us, Form::Plan),
+            _ => self.apply_any(call),
+        }
+    }
+
+    // Any call or query, as the method for it does it. A query leaves the state as it was.
+    fn apply_any(self, call: Call) -> Reply
         requires { ⌜ Valid self ⌝ }
         ensures { λ r. ⌜ Meets call self r ⌝ }
     {
@@ -68,10 +81,10 @@ impl QoSScheduler {
             Call::Wake(slot) => self.wake_task(slot),
             Call::Enqueue(slot) => self.enqueue_ready(slot),
             Call::Schedule(core) => self.schedule_on_cpu(core),
-            Call::Tick { core, elapsed_us } => self.ticked(core, elapsed_us, Form::Slot),
+            Call::Tick { core, elapsed_us } => self.on_timer_tick_on_cpu(core, elapsed_us),
             Call::Yield(core) => self.plan_voluntary_yield_on_cpu(core),
             Call::Handoff(core) => self.plan_blocked_current_handoff_on_cpu(core),
-            Call::Plan { core, elapsed_us } => self.ticked(core, elapsed_us, Form::Plan),
+            Call::Plan { core, elapsed_us } => self.plan_context_switch_on_cpu(core, elapsed_us),
             Call::CanRunOnCore { slot, core } => self.told(Value::Flag(self.can_run_on_core(
                 slot,
                 core,
