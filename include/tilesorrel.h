@@ -65,7 +65,7 @@ uint64_t step(uint8_t *image, size_t image_len, const uint8_t *frame, size_t fra
 #define TILESORREL_IMAGE_BYTES 3275  /* an image has exactly this many bytes */
 #define TILESORREL_ANSWER_BYTES 51   /* the longest answer: a buffer has at least this many bytes */
 #define TILESORREL_FRAME_BYTES 30    /* the longest frame, which is create's */
-#define TILESORREL_STACK_BYTES 65536 /* no call takes more stack than this; docs/host.md has what was measured */
+#define TILESORREL_STACK_BYTES 32768 /* no call takes more stack than this; docs/host.md has what was measured */
 
 /*
  * ---- Calls: the first byte of a frame, and the frame's length ----

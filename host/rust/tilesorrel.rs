@@ -129,7 +129,7 @@ pub const ANSWER_BYTES: usize = 51;
 /// The longest frame, which is create's.
 pub const FRAME_BYTES: usize = 30;
 /// No call takes more stack than this; docs/host.md has what was measured.
-pub const STACK_BYTES: usize = 65536;
+pub const STACK_BYTES: usize = 32768;
 
 // ---- Calls: the first byte of a frame, and the frame's length ----
 //

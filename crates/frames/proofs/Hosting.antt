@@ -98,10 +98,10 @@ module _ (call : Call) {before : List ℕ} {st : ImageStatus} (is : st ≡ image
   unfolding callOnImage
   called-refused refused = ap (λ (t : ImageStatus). calledOn t call before) (sym refused ∙ is)
 
-  pub called-accepted : {after : List ℕ} {r : Answer} → st ≡ read.Accepted → Answers call before after r →
+  pub called-done : {after : List ℕ} {r : Answer} → st ≡ read.Accepted → Answers call before after r →
       onImage (told.Answered r) after ≡ callOnImage call before
   unfolding callOnImage
-  called-accepted accepted answers =
+  called-done accepted answers =
       (λ i. onImage (told.Answered (answers .answer-is i)) (answers .image-is i)) ∙ ap (λ (t : ImageStatus). calledOn t call before) (sym accepted ∙ is)
 
 -- ---- a frame on an image

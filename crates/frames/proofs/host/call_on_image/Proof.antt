@@ -1,7 +1,7 @@
 -- `call_on_image` meets its contract: a refused image stays as it is, and else the call is done. Assumes nothing.
 use mathlib.Core.Path.{sym, _∙_}
 use borrow.Author.Needs.{needs}
-use Rattle.frames.proofs.Hosting.{called-refused, called-accepted}
+use Rattle.frames.proofs.Hosting.{called-refused, called-done}
 use Rattle.frames.proofs.Readings.{status-says}
 use Rattle.frames.proofs.host.call_on_image.Statement.{statement}
 use Rattle.frames.proofs.host.call_on_image.Tie as tie
@@ -20,7 +20,7 @@ returns-2 : tie.Need-returns-2
 returns-2 c =
     let at-called = c .before .before in
     let at-told = at-called .before .before in
-    called-accepted _ (at-told .before .before .check-image .ensures) (at-told .enum-told .given .1) (at-called .call-on-accepted .ensures)
+    called-done _ (at-told .before .before .check-image .ensures) (at-told .enum-told .given .1) (at-called .call-on-accepted .ensures)
 
 pub call-on-image-spec : {M : Type 1} → statement M
 call-on-image-spec =
