@@ -13,7 +13,7 @@ use Rattle.frames.specs.Answer.{answerBytes}
 use Rattle.frames.specs.Bytes.{bigEndianFrom, bytesOf}
 use Rattle.frames.specs.Frame.{frameCall}
 use Rattle.frames.specs.Hex.{isHex, fromHex, toHex}
-use Rattle.frames.specs.Lines.{lineOf, lineCall, lineText, saidTo, pieces, answerTo, stateAfter, answersTo}
+use Rattle.frames.specs.Lines.{lineCall, lineText, saidTo, linesFrom, lines, answerTo, stateAfter, answersTo}
 
 -- Each text as the bytes of its digits, and a newline.
 
@@ -70,6 +70,6 @@ fifth-answer = 48 ∷ 51 ∷ 102 ∷ 102 ∷ 102 ∷ 102 ∷ 10 ∷ []
 pub writes : List ℕ
 writes = first-answer ++ (second-answer ++ (third-answer ++ (fourth-answer ++ fifth-answer)))
 
-pub example : answersTo newState (pieces given) ≡ writes
-unfolding given writes answersTo answerTo stateAfter saidTo lineCall lineText lineOf pieces isHex fromHex toHex frameCall bigEndianFrom bytesOf answerBytes paper firstPlace pushed entryAt takenAt choice ruleP create enqueue block ticked tick
+pub example : answersTo newState (lines given) ≡ writes
+unfolding given writes answersTo answerTo stateAfter saidTo lineCall lineText linesFrom isHex fromHex toHex frameCall bigEndianFrom bytesOf answerBytes paper firstPlace pushed entryAt takenAt choice ruleP create enqueue block ticked tick
 example = refl

@@ -7,8 +7,7 @@
 --   Digits          hexadecimal digits: written and read back
 --   Sizes           how many bytes an answer has
 --   Refused         lines that are no frame, those longer than any frame among them
---   Texts           texts answered in parts: nothing is lost, nothing answered twice
---   Moving          bytes moved to the front
+--   Streams         text in blocks: nothing is lost, nothing answered twice, however it is cut
 --   Example         document 01's five lines, computed
 --   Images          a state's image: written and read back
 --   AcceptedImages  the test of acceptance; accepted images and accepted states
@@ -21,8 +20,8 @@
 --   Hosts           the host entry: what is refused, and demand 3 for a host on one image
 --
 -- How the functions are shown to meet their contracts: Runs is about numbers stored one behind the other,
--- Encodings puts an answer together, Decodings is the table of calls, Cuts where a text is cut into lines, Tellings what one
--- line is told, Onward one line and then the others, Progress the loop that answers a text. Writings puts an image together. Passing
+-- Encodings puts an answer together, Decodings is the table of calls, Cuts the first line of a text, Tellings what one
+-- line is told, ByLine a block taken line by line, Progress the loop that does so. Writings puts an image together. Passing
 -- is the loop that tests every slot or core, RecordBytes what a record's bytes say, Counting how often each slot stands in the queues,
 -- and Accepting has each way out of the test of an image. Readings puts a scheduler together from the parts of an image, and Hosting has each way
 -- out of a new image, of a call on an image and of the host entry.
@@ -33,8 +32,7 @@ pub mod Widths
 pub mod Digits
 pub mod Sizes
 pub mod Refused
-pub mod Texts
-pub mod Moving
+pub mod Streams
 pub mod Example
 pub mod Images
 pub mod AcceptedImages
@@ -50,7 +48,7 @@ mod Encodings
 mod Decodings
 mod Cuts
 mod Tellings
-mod Onward
+mod ByLine
 mod Progress
 mod Writings
 mod Passing

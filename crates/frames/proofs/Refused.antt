@@ -17,7 +17,7 @@ use Rattle.frames.specs.Bytes.{total}
 use Rattle.scheduler.specs.State.{State}
 use Rattle.frames.specs.Hex.{isDigit, isHex, fromHex, toHex}
 use Rattle.frames.specs.Lines.{newline, lineCall, said, saidTo, lineText}
-use Rattle.frames.specs.Blocks.{longestLine}
+use Rattle.frames.specs.Stream.{longestLine}
 
 -- no call has more arguments than create
 arguments-short : (call : ℕ) → argumentsLength call ≤ 29

@@ -1,8 +1,7 @@
--- What a line is told: its call, what that makes of a state, and the promise of `answer_line` from what was stored.
--- Assumes nothing.
+-- What a line is told: its call, and what that makes of a state. Assumes nothing.
 use mathlib.Core.Path.{_≡_, refl, sym, ap, _∙_}
 use mathlib.Core.Bool.{Bool, true, false, cond}
-use mathlib.Core.List.{List, _++_}
+use mathlib.Core.List.{List}
 use Prim.Native.Nat.{ℕ, _/_, _≤_}
 use native.Mathlib.Omega.{arith}
 use lib.ListN.{length, take}
@@ -15,12 +14,11 @@ use Rattle.scheduler.specs.State.{State}
 use Rattle.frames.specs.declared.decode.CallOption.{CallOption}
 use Rattle.frames.specs.declared.decode.CallOption.the-variants.{None, Some}
 use Rattle.frames.specs.Answer.{answerBytes}
-use Rattle.frames.specs.Bytes.{Puts, bytesOf}
 use Rattle.frames.specs.Frame.{frameCall}
 use Rattle.frames.specs.Hex.{isHex, fromHex}
 use Rattle.frames.proofs.Digits.{length-fromHex}
 use Rattle.frames.proofs.Stores.{take-sets}
-use Rattle.frames.specs.Lines.{lineCall, Said, noFrame, said, saidTo, Tells}
+use Rattle.frames.specs.Lines.{lineCall, Said, noFrame, said, saidTo}
 
 -- ---- the call of a line
 
@@ -65,18 +63,3 @@ makes-reply {line} {s} is meets =
       state-is = meets .state-is ∙ ap (λ (r : Said). r .state) told;
       bytes-are = ap answerBytes (meets .answer-is) ∙ ap (λ (r : Said). r .bytes) told;
     }
-
--- ---- what it is told
-
-pub puts-refusal : {before after : List ℕ} → after ≡ sets before 0 (bytesOf 1 9 ++ bytesOf 2 65535) → Puts noFrame 0 before after 3
-unfolding bytesOf
-puts-refusal put = record { buffer-is = put; length-is = refl }
-
-pub tells : {line : List ℕ} {s : QoSScheduler} {bytes : List ℕ} {next : QoSScheduler} {before after : List ℕ} {n : ℕ} → Makes line s bytes next
-    → Puts bytes 0 before after n → Tells line s before after (record { state = next; length = n })
-tells {before = before} made puts = record {
-  valid = made .valid;
-  state-is = made .state-is;
-  length-is = puts .length-is ∙ ap length (made .bytes-are);
-  buffer-is = puts .buffer-is ∙ ap (sets before 0) (made .bytes-are);
-}

@@ -4,7 +4,7 @@
 --   Bytes           big-endian numbers                  Hex      two digits a byte
 --   Frame           which call a frame stands for       Answer   the bytes of an answer
 --   Lines           lines of text, and the text of their answers
---   Blocks          text that is read in blocks
+--   Stream          text that comes in blocks, answered as far as a buffer has room
 --   Image           the bytes of a state, and the state that bytes stand for
 --   AcceptedImage   which images are accepted
 --   Fits            calls and answers whose numbers fit their fields, and states that have an image
@@ -19,7 +19,7 @@ pub mod Hex
 pub mod Frame
 pub mod Answer
 pub mod Lines
-pub mod Blocks
+pub mod Stream
 pub mod Image
 pub mod AcceptedImage
 pub mod Fits

@@ -1,15 +1,61 @@
--- Demand 3 for text: the answers to lines are a history's, of whoever calls `answer_text` again and again.
+-- Text fed to a stream, block after block: that the answers are those to the lines of the whole text, however it is cut and however small the buffers
+-- are, and demand 3 for them.
 use mathlib.Core.Path.{_≡_}
-use mathlib.Core.Bool.{Bool}
+use mathlib.Core.Bool.{Bool, true, false}
 use mathlib.Core.List.{List, [], _∷_, _++_, map, flatten}
 use Prim.Native.Nat.{ℕ}
-use lib.ListN.{length, take}
+use lib.ListN.{take, drop}
 use Rattle.scheduler.specs.declared.scheduler.QoSScheduler.{QoSScheduler}
 use Rattle.scheduler.specs.State.{State}
-use Rattle.frames.specs.declared.lines.Answered.{Answered}
+use Rattle.frames.specs.declared.stream.Fed.{Fed}
+use Rattle.frames.specs.declared.stream.Stream.{Stream}
 use Rattle.frames.specs.Answer.{answerBytes}
-use Rattle.frames.specs.Lines.{lineOf, lineCall, noFrame, lineText, pieces, Answers}
 use Rattle.frames.specs.Asked.{Protocol, Asks}
+use Rattle.frames.specs.Lines.{lineCall, noFrame, lineText, lines, answersTo}
+use Rattle.frames.specs.Stream.{Feeds}
+
+-- ---- a text, fed to a stream
+
+-- one feeding: what was fed, the buffer before and after, and what came back
+pub record Feeding : Type 0 where
+  pub block : List ℕ
+  pub last : Bool
+  pub before : List ℕ
+  pub after : List ℕ
+  pub got : Fed
+
+-- the block is the next part of what there is of a text, and is said to be the last only where nothing follows
+pub record NextOf (text : List ℕ) (f : Feeding) : Type 0 where
+  pub more : List ℕ
+  pub text-is : text ≡ f .block ++ more
+  pub last-is : f .last ≡ true → more ≡ []
+
+-- Each feeding keeps its contract, at the stream that the one before handed back; its block is the next part of what is not used yet.
+unfoldable pub Feedings : Stream → List ℕ → List Feeding → Type 0
+Feedings stream text [] = Unit
+Feedings stream text (f ∷ rest) =
+    Feeds (f .last) stream (f .block) (f .before) (f .after) (f .got) × (NextOf text f × Feedings (f .got .stream) (drop (f .got .used) text) rest)
+
+-- what they wrote, one behind the other
+abbrev pub textOf : List Feeding → List ℕ
+textOf fs = flatten (map (λ (f : Feeding). take (f .got .written) (f .after)) fs)
+
+-- the text was fed to its end: the last block of it, and every answer had room
+unfoldable pub Finished : List Feeding → Type 0
+Finished [] = ⊥
+Finished (f ∷ []) = (f .last ≡ true) × (f .got .«is_full» ≡ false)
+Finished (f ∷ g ∷ rest) = Finished (g ∷ rest)
+
+-- What was written is the answers to the first of some lines: nothing is lost, nothing answered twice. Where the text was fed to its end, it is the
+-- answers to all of them.
+pub record Answered (s : State) (all : List (List ℕ)) (fs : List Feeding) : Type 0 where
+  pub answered : List (List ℕ)
+  pub later : List (List ℕ)
+  pub lines-are : all ≡ answered ++ later
+  pub text-is : textOf fs ≡ answersTo s answered
+  pub finished : Finished fs → later ≡ []
+
+-- ---- demand 3
 
 -- a line, and the text that it is answered
 pub record Line : Type 0 where
@@ -24,38 +70,14 @@ byLine = record {
   Told = λ l answer. l .text ≡ lineText (answerBytes answer);
 }
 
--- a text of answers to some pieces of a text, from a scheduler on
-pub record TextClaim (start : State) (s : QoSScheduler) (ps : List (List ℕ)) (text : List ℕ) : Type 0 where
+-- a text of answers to some lines, from a scheduler on
+pub record TextClaim (start : State) (s : QoSScheduler) (asked : List (List ℕ)) (text : List ℕ) : Type 0 where
   pub lines : List Line
-  pub lines-are : map (λ (l : Line). l .line) lines ≡ map lineOf ps
+  pub lines-are : map (λ (l : Line). l .line) lines ≡ asked
   pub text-is : text ≡ flatten (map (λ (l : Line). l .text) lines)
   pub asks : Asks byLine start s lines
 
--- one call of `answer_text`: what it was given, the buffer after, and what came back
-pub record TextCall : Type 0 where
-  pub last : Bool
-  pub input : List ℕ
-  pub before : List ℕ
-  pub after : List ℕ
-  pub got : Answered
-
--- each keeps its contract, at the scheduler that the one before handed back
-unfoldable pub TextCalls : QoSScheduler → List TextCall → Type 0
-TextCalls s [] = Unit
-TextCalls s (t ∷ rest) = Answers (t .last) s (t .input) (t .before) (t .after) (t .got) × TextCalls (t .got .state) rest
-
--- the lines that they answered: the first n of each text, which are as many bytes as it used
-unfoldable pub Used : List TextCall → List (List ℕ) → Type 0
-Used [] ps = ps ≡ []
-Used (t ∷ rest) ps =
-    (n : ℕ) × ((later : List (List ℕ)) × ((ps ≡ take n (pieces (t .input)) ++ later) ×
-    ((t .got .used ≡ length (flatten (take n (pieces (t .input))))) × Used rest later)))
-
--- what they wrote, one behind the other
-abbrev pub textOf : List TextCall → List ℕ
-textOf calls = flatten (map (λ (t : TextCall). take (t .got .written) (t .after)) calls)
-
-pub record TextsClaim (start : State) (s : QoSScheduler) (calls : List TextCall) : Type 0 where
-  pub answered : List (List ℕ)
-  pub used : Used calls answered
-  pub claim : TextClaim start s answered (textOf calls)
+-- what feedings wrote from a scheduler on is the answers to the text's first lines, or all, and these are a history's
+pub record StreamClaim (start : State) (s : QoSScheduler) (text : List ℕ) (fs : List Feeding) : Type 0 where
+  pub so-far : Answered start (lines text) fs
+  pub claim : TextClaim start s (so-far .answered) (textOf fs)

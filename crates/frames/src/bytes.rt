@@ -87,7 +87,7 @@ pub(crate) fn put_bytes(bytes: &[u8], out: &mut [u8], at: usize)
 }
 
 // The bytes stored from `at` on, where each has its place.
-fn put_all(bytes: &[u8], out: &mut [u8], at: usize)
+pub(crate) fn put_all(bytes: &[u8], out: &mut [u8], at: usize)
     requires { ⌜ at + length (now bytes) ≤ length (now out) ⌝ }
     ensures { λ _. ⌜ now (out .exit) ≡ sets (now (out .entry)) at (now (bytes .entry)) ⌝ }
 {

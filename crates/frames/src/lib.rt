@@ -5,8 +5,8 @@
 //   hex      lower-case hexadecimal, two digits a byte
 //   decode   a frame's bytes, read as a call
 //   encode   an answer's bytes, written into a lent buffer
-//   lines    the next line of a text, its call, and the answers to a whole text
-//   blocks   what has to be kept of a text that is read in blocks
+//   lines    the next line of a text, its call, and an answer as a line
+//   stream   text that comes in blocks, and the answers to its lines
 //   layout   where each part of a record and of an image stands
 //   parts    the parts of an image
 //   fields   what a record's bytes say, and what is asked of them
@@ -21,7 +21,6 @@
 // promises its whole result and the whole contents of the buffers that it is lent, as equal to definitions on lists of
 // bytes in specs/; proofs/ has the laws of those definitions.
 mod accept;
-mod blocks;
 mod bytes;
 mod decode;
 mod encode;
@@ -34,11 +33,10 @@ mod lines;
 mod parts;
 mod read;
 mod refusal;
+mod stream;
 mod touched;
 
 pub use accept::accepts_image;
-pub use blocks::kept_from;
-pub use blocks::move_to_front;
 pub use decode::CallOption;
 pub use decode::read_frame;
 pub use encode::ANSWER_MAX;
@@ -50,10 +48,6 @@ pub use host::step;
 pub use image::write_image;
 pub use layout::IMAGE_BYTES;
 pub use lines::ANSWER_LINE_MAX;
-pub use lines::Answered;
-pub use lines::Told;
-pub use lines::answer_line;
-pub use lines::answer_text;
 pub use lines::next_line;
 pub use lines::read_line;
 pub use read::ImageRead;
@@ -61,3 +55,5 @@ pub use read::ImageStatus;
 pub use read::check_image;
 pub use read::read_image;
 pub use refusal::HostError;
+pub use stream::Fed;
+pub use stream::Stream;

@@ -1,0 +1,136 @@
+-- A block taken line by line, as the code goes: what its first line makes of a stream, and then what comes behind it (`fed-line`). Assumes nothing.
+use mathlib.Core.Bool.{Bool, true, false, cond, _&&_, _||_, and-false}
+use mathlib.Core.List.{List, [], _∷_, _++_, append-assoc, append-nil}
+use mathlib.Core.Path.{_≡_, refl, sym, ap, _∙_}
+use Prim.Native.Nat.{ℕ, suc, _+_, _-_, _≤_, _<_, min}
+use native.Mathlib.Nat.{zero-add, add-assoc}
+use native.Mathlib.Omega.{arith}
+use borrow.Author.Tests.{ltb-true, ltb-false, lt-ltb, le-ltb}
+use lib.Dec.{eqb, ltb, leb}
+use lib.ListN.{length, take, drop, length-take}
+use Rattle.records.proofs.Cases.{split, by-if}
+use Rattle.scheduler.specs.State.{State}
+use Rattle.frames.specs.Lines.{newline, lineOf, some, answerTo, stateAfter}
+use Rattle.frames.specs.Stream.{longestLine, heldOf, Reached, waits, answering, pastByte, ended, fed}
+use Rattle.frames.proofs.Cuts.{test}
+use Rattle.frames.proofs.Streams.{held-more, held-short}
+
+-- this text and so many bytes of the block first
+abbrev pub onward : List ℕ → ℕ → Reached → Reached
+onward text used r = record { text = text ++ r .text; used = used + r .used; state = r .state; held = r .held; full = r .full }
+
+pub onward-none : (r : Reached) → r ≡ onward [] 0 r
+onward-none r = λ i. record { text = r .text; used = sym (zero-add (r .used)) i; state = r .state; held = r .held; full = r .full }
+
+pub onward-onward : (a b : List ℕ) (m n : ℕ) (r : Reached) → onward a m (onward b n r) ≡ onward (a ++ b) (m + n) r
+onward-onward a b m n r =
+    λ i. record { text = sym (append-assoc a b (r .text)) i; used = sym (add-assoc m n (r .used)) i; state = r .state; held = r .held; full = r .full }
+
+-- the place behind the first line and the newline that closes it, if one does
+abbrev pub past : List ℕ → ℕ
+past block = min (length (lineOf block) + 1) (length block)
+
+-- whether the first line, with what is held of it, is at its end
+abbrev pub isEnded : Bool → List ℕ → List ℕ → Bool
+isEnded last held block = ltb (length (lineOf block)) (length block) || (last && some (held ++ lineOf block))
+
+-- so many bytes are used, this is held, and nothing is answered
+abbrev pub stopsAt : State → List ℕ → ℕ → Bool → Reached
+stopsAt s held used full = record { text = []; used = used; state = s; held = held; full = full }
+
+-- ---- what is held, and whether there is anything of a line, one byte on
+
+held-none : (held : List ℕ) → length held ≤ longestLine + 1 → heldOf (held ++ []) ≡ held
+held-none held short = ap heldOf (append-nil held) ∙ held-short held short
+
+held-on : (held : List ℕ) (b : ℕ) (line : List ℕ) → heldOf (heldOf (held ++ (b ∷ [])) ++ line) ≡ heldOf (held ++ b ∷ line)
+held-on held b line = held-more (held ++ (b ∷ [])) line ∙ ap heldOf (append-assoc held (b ∷ []) line)
+
+some-on : (held : List ℕ) (b : ℕ) (line : List ℕ) → some (heldOf (held ++ (b ∷ [])) ++ line) ≡ some (held ++ b ∷ line)
+some-on [] b line = refl
+some-on (x ∷ held) b line = refl
+
+ltb-suc : (m n : ℕ) → ltb m n ≡ ltb (suc m) (suc n)
+ltb-suc m n =
+    split (λ (t : Bool). t ≡ ltb (suc m) (suc n)) (ltb m n)
+    (λ e. sym (lt-ltb (suc m) (suc n) (omega (arith, ltb-true m n e))))
+    (λ e. sym (le-ltb (suc m) (suc n) (omega (arith, ltb-false m n e))))
+
+module _ (last : Bool) (room : ℕ) (s : State) where
+  -- by whether a line is at its end, what is held of it, how many bytes it has, and what comes behind it, at which place
+  abbrev pub byParts : Bool → List ℕ → ℕ → ℕ → List ℕ → Reached
+  byParts is-ended line n behind rest =
+      cond is-ended
+      (cond (leb (length (answerTo line s)) room)
+      (onward (answerTo line s) behind (fed last (room - length (answerTo line s)) (stateAfter line s) [] rest))
+      (stopsAt s line n true))
+      (stopsAt s line n false)
+
+  -- one more byte of the line
+  past-parts : (is-ended : Bool) (line : List ℕ) (n behind : ℕ) (rest : List ℕ) →
+      pastByte (byParts is-ended line n behind rest) ≡ byParts is-ended line (suc n) (suc behind) rest
+  past-parts false line n behind rest = refl
+  past-parts true line n behind rest =
+      split (λ (fits : Bool). pastByte (cond fits onwards (stopsAt s line n true)) ≡ cond fits later (stopsAt s line (suc n) true))
+      (leb (length (answerTo line s)) room)
+      (λ _. λ i. record { text = later .text; used = sum i; state = later .state; held = later .held; full = later .full }) (λ _. refl)
+    where
+      r : Reached
+      r = fed last (room - length (answerTo line s)) (stateAfter line s) [] rest
+
+      onwards : Reached
+      onwards = onward (answerTo line s) behind r
+
+      later : Reached
+      later = onward (answerTo line s) (suc behind) r
+
+      sum : suc (behind + r .used) ≡ suc behind + r .used
+      sum = omega arith
+
+  -- ---- the first line, by the first byte of the block
+
+  at-end : (held : List ℕ) → fed last room s held [] ≡ byParts (last && some held) held 0 0 []
+  unfolding fed
+  at-end held =
+      split (λ (due : Bool). cond due (ended room s held (waits false (stateAfter held s) [])) (waits false s held) ≡ byParts due held 0 0 []) (last && some held)
+      (λ _. ap (λ (due : Bool). cond (leb (length (answerTo held s)) room) (onward (answerTo held s) 0 (cond due (later due) (waits false (stateAfter held s) []))) (waits true s held))
+      (sym (and-false last)))
+      (λ _. refl)
+    where
+      later : Bool → Reached
+      later due = ended (room - length (answerTo held s)) (stateAfter held s) [] (waits false (stateAfter [] (stateAfter held s)) [])
+
+  at-newline : (held block : List ℕ) →
+      ended room s held (pastByte (fed last (room - length (answerTo held s)) (stateAfter held s) [] block)) ≡ byParts true held 0 1 block
+  at-newline held block = λ i. cond (leb (length (answerTo held s)) room)
+      (record { text = answerTo held s ++ r .text; used = sum i; state = r .state; held = r .held; full = r .full })
+      (waits true s held)
+    where
+      r : Reached
+      r = fed last (room - length (answerTo held s)) (stateAfter held s) [] block
+
+      sum : suc (r .used) ≡ 1 + r .used
+      sum = omega arith
+
+  pub fed-line : (block held : List ℕ) → length held ≤ longestLine + 1 →
+      fed last room s held block ≡ byParts (isEnded last held block) (heldOf (held ++ lineOf block)) (length (lineOf block)) (past block) (drop (past block) block)
+  unfolding fed lineOf
+  fed-line [] held short =
+      at-end held ∙ (λ i. byParts (last && some (sym (append-nil held) i)) (sym (held-none held short) i) 0 0 [])
+  fed-line (b ∷ block) held short =
+      test (eqb b newline)
+      (λ e.
+      let closed : ltb 0 (suc (length block)) ≡ true = lt-ltb 0 (suc (length block)) (omega arith) in
+      let one : min 1 (suc (length block)) ≡ 1 = omega arith in
+      rw e
+      (at-newline held block
+      ∙ (λ i. byParts (sym closed i || (last && some (held ++ []))) (sym (held-none held short) i) 0 (sym one i) (drop (sym one i) (b ∷ block)))))
+      (λ e.
+      let held′ : List ℕ = heldOf (held ++ (b ∷ [])) in
+      let line : List ℕ = lineOf block in
+      let one-more : suc (min (length line + 1) (length block)) ≡ min (suc (length line) + 1) (suc (length block)) = omega arith in
+      rw e
+      (ap pastByte (fed-line block held′ (omega (arith, length-take (longestLine + 1) (held ++ (b ∷ [])))))
+      ∙ past-parts (isEnded last held′ block) (heldOf (held′ ++ line)) (length line) (past block) (drop (past block) block)
+      ∙ (λ i.
+      byParts (ltb-suc (length line) (length block) i || (last && some-on held b line i)) (held-on held b line i) (suc (length line)) (one-more i) (drop (one-more i) (b ∷ block)))))

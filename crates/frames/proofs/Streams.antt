@@ -1,0 +1,318 @@
+-- Text in blocks (`fed`): what is held of a line stands for the line; how much is used and written; and so what a list of feedings writes is the answers
+-- to the lines of the text, however it is cut and however small the buffers are (`feedings-answered`). A block taken line by line, as the code goes, is
+-- ByLine's matter. Assumes nothing.
+use mathlib.Core.Bool.{Bool, true, false, cond, _&&_, false≢true, true≢false, and-eq-true-iff}
+use mathlib.Core.List.{List, [], _∷_, _++_, append-assoc, append-nil, flatten}
+use mathlib.Core.Path.{_≡_, refl, sym, ap, _∙_, subst}
+use Prim.Native.Nat.{ℕ, zero, suc, _+_, _-_, _*_, _≤_, _<_}
+use native.Mathlib.Omega.{arith}
+use borrow.Author.Tests.{ltb-true, lt-ltb, leb-true, leb-false, lt-leb, le-leb}
+use lib.Dec.{eqb, ltb, leb}
+use lib.ListN.{length, take, drop, length-append, length-take}
+use lib.Seq.{take-all, drop-length, drop-append-le}
+use Rattle.records.proofs.Cases.{split, by-if}
+use Rattle.scheduler.specs.declared.scheduler.QoSScheduler.{QoSScheduler}
+use Rattle.scheduler.specs.Scheduler.{abs}
+use Rattle.scheduler.specs.State.{State}
+use Rattle.frames.specs.declared.decode.CallOption.{CallOption}
+use Rattle.frames.specs.declared.stream.Fed.{Fed}
+use Rattle.frames.specs.declared.stream.Stream.{Stream}
+use Rattle.frames.specs.Hex.{toHex}
+use Rattle.frames.specs.Lines.{newline, lineCall, said, saidTo, lineText, some, linesFrom, lines, answerTo, stateAfter, answersTo, stateAfterAll}
+use Rattle.frames.specs.Stream.{longestLine, heldOf, Reached, waits, answering, pastByte, ended, fed, heldIn, Begins, reachedBy, Feeds}
+use Rattle.frames.specs.TextClaim.{Feeding, NextOf, Feedings, textOf, Finished, Answered}
+use Rattle.frames.proofs.Digits.{length-toHex}
+use Rattle.frames.proofs.Refused.{long-line}
+use Rattle.frames.proofs.Sizes.{said-fits}
+use Rattle.frames.proofs.Stores.{take-sets}
+
+-- ---- what is held of a line
+
+take-first : (n : ℕ) (a b : List ℕ) → take n (take n a ++ b) ≡ take n (a ++ b)
+take-first zero a b = refl
+take-first (suc n) [] b = refl
+take-first (suc n) (x ∷ a) b = ap (λ (l : List ℕ). x ∷ l) (take-first n a b)
+
+-- more behind it is more behind the line
+pub held-more : (line more : List ℕ) → heldOf (heldOf line ++ more) ≡ heldOf (line ++ more)
+held-more line more = take-first (longestLine + 1) line more
+
+pub held-short : (held : List ℕ) → length held ≤ longestLine + 1 → heldOf held ≡ held
+held-short held short = take-all (longestLine + 1) held short
+
+-- it is told what the line is: a longer line than any frame is refused, and so is what is held of it
+pub call-held : (line : List ℕ) → lineCall (heldOf line) ≡ lineCall line
+call-held line =
+    split (λ (_ : Bool). lineCall (heldOf line) ≡ lineCall line) (leb (length line) longestLine)
+    (λ short. ap lineCall (held-short line (omega (arith, leb-true (length line) longestLine short))))
+    (λ long.
+    let far : longestLine < length line = leb-false (length line) longestLine long in
+    long-line (heldOf line) (omega (arith, length-take (longestLine + 1) line)) ∙ sym (long-line line far))
+
+module _ (line : List ℕ) (s : State) where
+  answer-held : answerTo (heldOf line) s ≡ answerTo line s
+  unfolding answerTo saidTo
+  answer-held = ap (λ (c : CallOption). lineText (said c s .bytes)) (call-held line)
+
+  state-held : stateAfter (heldOf line) s ≡ stateAfter line s
+  unfolding stateAfter saidTo
+  state-held = ap (λ (c : CallOption). said c s .state) (call-held line)
+
+-- there is something of it where there is a line
+some-held : (line : List ℕ) → some (heldOf line) ≡ some line
+some-held [] = refl
+some-held (b ∷ line) = refl
+
+-- ---- how much is written, and used
+
+pub length-lineText : (bytes : List ℕ) → length (lineText bytes) ≡ 2 * length bytes + 1
+unfolding lineText
+length-lineText bytes = omega (arith, length-append (toHex bytes) (newline ∷ []), length-toHex bytes)
+
+-- an answer's line: two digits a byte, and the newline
+pub answer-in : (line : List ℕ) (s : State) → length (answerTo line s) ≤ 103
+unfolding answerTo
+answer-in line s = omega (arith, length-lineText (saidTo line s .bytes), said-fits line s)
+
+-- a fact about what is reached where the line that is held is at its end
+by-end : (P : Reached → Type 0) (room : ℕ) (s : State) (held : List ℕ) (next : Reached) →
+    (length (answerTo held s) ≤ room → P (answering (answerTo held s) next)) → (room < length (answerTo held s) → P (waits true s held)) →
+    P (ended room s held next)
+by-end P room s held next fits full =
+    by-if P (leb (length (answerTo held s)) room) (λ e. fits (leb-true _ _ e)) (λ e. full (leb-false _ _ e))
+
+-- along the bytes of a block
+module _ (last : Bool) (P : ℕ → State → List ℕ → List ℕ → Reached → Type 0)
+    (stays : (room : ℕ) (s : State) (held : List ℕ) → last && some held ≡ false → P room s held [] (waits false s held))
+    (closes : (room : ℕ) (s : State) (held : List ℕ) → last && some held ≡ true → length (answerTo held s) ≤ room →
+    P room s held [] (answering (answerTo held s) (waits false (stateAfter held s) [])))
+    (is-full : (room : ℕ) (s : State) (held block : List ℕ) → room < length (answerTo held s) → P room s held block (waits true s held))
+    (answers : (room : ℕ) (s : State) (held block : List ℕ) (r : Reached) (b : ℕ) → eqb b newline ≡ true → length (answerTo held s) ≤ room →
+    P (room - length (answerTo held s)) (stateAfter held s) [] block r → P room s held (b ∷ block) (answering (answerTo held s) (pastByte r)))
+    (goes-on : (room : ℕ) (s : State) (held block : List ℕ) (r : Reached) (b : ℕ) → eqb b newline ≡ false →
+    P room s (heldOf (held ++ (b ∷ []))) block r → P room s held (b ∷ block) (pastByte r)) where
+  along : (block : List ℕ) (room : ℕ) (s : State) (held : List ℕ) → P room s held block (fed last room s held block)
+  unfolding fed
+  along [] room s held =
+      by-if (P room s held []) (last && some held)
+      (λ due. by-end (P room s held []) room s held _ (closes room s held due) (is-full room s held []))
+      (stays room s held)
+  along (b ∷ block) room s held =
+      by-if (P room s held (b ∷ block)) (eqb b newline)
+      (λ e. by-end (P room s held (b ∷ block)) room s held _ (λ fits. answers room s held block _ b e fits (along block _ _ _)) (is-full room s held (b ∷ block)))
+      (λ e. goes-on room s held block _ b e (along block _ _ _))
+
+module _ (last : Bool) where
+  pub text-in : (block : List ℕ) (room : ℕ) (s : State) (held : List ℕ) → length (fed last room s held block .text) ≤ room
+  text-in =
+      along last (λ room s held block r. length (r .text) ≤ room) (λ room s held _. omega arith)
+      (λ room s held due fits. omega (arith, length-append (answerTo held s) []))
+      (λ room s held block small. omega arith)
+      (λ room s held block r b e fits behind. omega (arith, length-append (answerTo held s) (r .text)))
+      (λ room s held block r b e behind. behind)
+
+  pub used-in : (block : List ℕ) (room : ℕ) (s : State) (held : List ℕ) → fed last room s held block .used ≤ length block
+  used-in =
+      along last (λ room s held block r. r .used ≤ length block) (λ room s held _. omega arith) (λ room s held due fits. omega arith)
+      (λ room s held block small. omega arith)
+      (λ room s held block r b e fits behind. omega arith)
+      (λ room s held block r b e behind. omega arith)
+
+  -- all is used, unless the buffer is full
+  pub all-used : (block : List ℕ) (room : ℕ) (s : State) (held : List ℕ) → fed last room s held block .full ≡ false →
+      fed last room s held block .used ≡ length block
+  all-used =
+      along last (λ room s held block r. r .full ≡ false → r .used ≡ length block) (λ room s held _ e. refl) (λ room s held due fits e. refl)
+      (λ room s held block small e. absurd (true≢false e))
+      (λ room s held block r b e fits behind so. ap suc (behind so))
+      (λ room s held block r b e behind so. ap suc (behind so))
+
+  -- and something is used even then, if the buffer has room for any one answer
+  pub some-used : (block : List ℕ) (room : ℕ) (s : State) (held : List ℕ) → 103 ≤ room → fed last room s held block .full ≡ true →
+      0 < fed last room s held block .used
+  some-used =
+      along last (λ room s held block r. 103 ≤ room → r .full ≡ true → 0 < r .used) (λ room s held _ wide e. absurd (false≢true e))
+      (λ room s held due fits wide e. absurd (false≢true e))
+      (λ room s held block small wide e. absurd (omega (arith, answer-in held s)))
+      (λ room s held block r b e fits behind wide so. omega arith)
+      (λ room s held block r b e behind wide so. omega arith)
+
+-- ---- the lines that are answered
+
+answersTo-append : (s : State) (ps qs : List (List ℕ)) → answersTo s (ps ++ qs) ≡ answersTo s ps ++ answersTo (stateAfterAll s ps) qs
+unfolding answersTo stateAfterAll
+answersTo-append s [] qs = refl
+answersTo-append s (line ∷ ps) qs =
+    ap (λ (l : List ℕ). answerTo line s ++ l) (answersTo-append (stateAfter line s) ps qs)
+    ∙ sym (append-assoc (answerTo line s) (answersTo (stateAfter line s) ps) _)
+
+-- From lines of which the first is begun: some are answered, in this text, and the rest of the text goes on from the line that is next.
+record Onto (s : State) (all : List (List ℕ)) (text : List ℕ) (next : State) (held rest : List ℕ) : Type 0 where
+  answered : List (List ℕ)
+  line : List ℕ
+  held-is : held ≡ heldOf line
+  lines-are : all ≡ answered ++ linesFrom line rest
+  text-is : text ≡ answersTo s answered
+  state-is : next ≡ stateAfterAll s answered
+
+-- none are
+onto-none : {s : State} (line : List ℕ) {held rest : List ℕ} → held ≡ heldOf line → Onto s (linesFrom line rest) [] s held rest
+unfolding answersTo stateAfterAll
+onto-none line is = record { answered = []; line = line; held-is = is; lines-are = refl; text-is = refl; state-is = refl }
+
+-- a line that is begun is the first
+onto-first : {s next : State} {line held text held′ rest : List ℕ} {all : List (List ℕ)} → held ≡ heldOf line → Onto (stateAfter held s) all text next held′ rest →
+    Onto s (line ∷ all) (answerTo held s ++ text) next held′ rest
+unfolding answersTo stateAfterAll
+onto-first {s} {next} {line} {held} {text} is o =
+    let state : stateAfter held s ≡ stateAfter line s = ap (λ (l : List ℕ). stateAfter l s) is ∙ state-held line s in
+    record {
+      answered = line ∷ o .answered;
+      line = o .line;
+      held-is = o .held-is;
+      lines-are = ap (λ (l : List (List ℕ)). line ∷ l) (o .lines-are);
+      text-is =
+          ap (λ (l : List ℕ). answerTo held s ++ l) (o .text-is)
+          ∙ (λ i. (ap (λ (l : List ℕ). answerTo l s) is ∙ answer-held line s) i ++ answersTo (state i) (o .answered));
+      state-is = o .state-is ∙ ap (λ (t : State). stateAfterAll t (o .answered)) state;
+    }
+
+-- a block, whatever comes behind it; nothing comes behind the last
+module _ (last : Bool) (more : List ℕ) (none : last ≡ true → more ≡ []) where
+  abbrev From : ℕ → State → List ℕ → List ℕ → Reached → Type 0
+  From room s held block r =
+      (line : List ℕ) → held ≡ heldOf line → Onto s (linesFrom line (block ++ more)) (r .text) (r .state) (r .held) (drop (r .used) block ++ more)
+
+  at-end : (s : State) (held line : List ℕ) → held ≡ heldOf line → last && some held ≡ true →
+      Onto s (linesFrom line more) (answerTo held s ++ []) (stateAfter held s) [] more
+  unfolding linesFrom
+  at-end s held line is due =
+      let both = and-eq-true-iff last (some held) .0 due in
+      let there : some line ≡ true = sym (some-held line) ∙ ap some (sym is) ∙ both .1 in
+      let all : linesFrom line more ≡ line ∷ linesFrom [] more =
+      subst (λ (m : List ℕ). linesFrom line m ≡ line ∷ linesFrom [] m) (sym (none (both .0))) (ap (λ (b : Bool). cond b (line ∷ []) []) there) in
+      subst (λ (l : List (List ℕ)). Onto s l (answerTo held s ++ []) (stateAfter held s) [] more) (sym all) (onto-first is (onto-none [] refl))
+
+  onto-fed : (block : List ℕ) (room : ℕ) (s : State) (held : List ℕ) → From room s held block (fed last room s held block)
+  unfolding linesFrom
+  onto-fed =
+      along last From (λ room s held _ line is. onto-none line is) (λ room s held due fits line is. at-end s held line is due)
+      (λ room s held block small line is. onto-none line is)
+      (λ room s held block r b e fits behind line is. rw e (onto-first is (behind [] refl)))
+      (λ room s held block r b e behind line is.
+      rw e (behind (line ++ (b ∷ [])) (ap (λ (l : List ℕ). heldOf (l ++ (b ∷ []))) is ∙ held-more line (b ∷ []))))
+
+-- nothing is held behind the last block, if every answer had room
+none-held : (block : List ℕ) (room : ℕ) (s : State) (held : List ℕ) → fed true room s held block .full ≡ false → fed true room s held block .held ≡ []
+none-held =
+    along true (λ room s held block r. r .full ≡ false → r .held ≡ []) (λ room s held none e. empty held none) (λ room s held due fits e. refl)
+    (λ room s held block small e. absurd (true≢false e))
+    (λ room s held block r b e fits behind. behind)
+    (λ room s held block r b e behind. behind)
+  where
+    empty : (l : List ℕ) → some l ≡ false → l ≡ []
+    empty [] none = refl
+    empty (b ∷ l) none = absurd (true≢false none)
+
+held-none : (line : List ℕ) → [] ≡ heldOf line → line ≡ []
+held-none [] is = refl
+held-none (b ∷ line) is = absurd (omega (arith, ap length is))
+
+-- ---- a list of feedings
+
+module _ {last : Bool} {stream : Stream} {block before after : List ℕ} {r : Fed} (feeds : Feeds last stream block before after r) where
+  -- what stands at the front of the buffer
+  pub written-out : take (r .written) after ≡ reachedBy last stream block (length before) .text
+  written-out =
+      (λ i. take (feeds .written-is i) (feeds .buffer-is i)) ∙ take-sets before _ (text-in last block (length before) (abs (stream .state)) (heldIn stream))
+
+  pub feeds-in : r .used ≤ length block
+  feeds-in = omega (arith, feeds .used-is, used-in last block (length before) (abs (stream .state)) (heldIn stream))
+
+  pub feeds-on : 103 ≤ length before → r .«is_full» ≡ true → 0 < r .used
+  feeds-on wide full =
+      omega (arith, feeds .used-is, some-used last block (length before) (abs (stream .state)) (heldIn stream) wide (sym (feeds .full-is) ∙ full))
+
+  pub feeds-all : r .«is_full» ≡ false → r .used ≡ length block
+  feeds-all room = feeds .used-is ∙ all-used last block (length before) (abs (stream .state)) (heldIn stream) (sym (feeds .full-is) ∙ room)
+
+module _ (stream : Stream) (text line : List ℕ) (is : heldIn stream ≡ heldOf line) (f : Feeding)
+    (feeds : Feeds (f .last) stream (f .block) (f .before) (f .after) (f .got)) (next : NextOf text f) where
+  abbrev at : List ℕ
+  at = drop (f .got .used) text
+
+  abbrev r : Reached
+  r = reachedBy (f .last) stream (f .block) (length (f .before))
+
+  feeds-onto : Onto (abs (stream .state)) (linesFrom line text) (take (f .got .written) (f .after)) (abs (f .got .stream .state)) (heldIn (f .got .stream)) at
+  feeds-onto =
+      let o = onto-fed (f .last) (next .more) (next .last-is) (f .block) (length (f .before)) (abs (stream .state)) (heldIn stream) line is in
+      let rest : drop (f .got .used) text ≡ drop (r .used) (f .block) ++ next .more =
+      ap (drop (f .got .used)) (next .text-is)
+      ∙ drop-append-le (f .got .used) (f .block) (next .more) (feeds-in feeds)
+      ∙ ap (λ (n : ℕ). drop n (f .block) ++ next .more) (feeds .used-is) in
+      record {
+        answered = o .answered;
+        line = o .line;
+        held-is = feeds .held-is ∙ o .held-is;
+        lines-are =
+            ap (linesFrom line) (next .text-is) ∙ o .lines-are ∙ ap (λ (l : List ℕ). o .answered ++ linesFrom (o .line) l) (sym rest);
+        text-is = written-out feeds ∙ o .text-is;
+        state-is = feeds .state-is ∙ o .state-is;
+      }
+
+  -- nothing is left behind the last
+  feeds-last : f .last ≡ true → f .got .«is_full» ≡ false → linesFrom (feeds-onto .line) at ≡ []
+  unfolding linesFrom
+  feeds-last last room =
+      let s = abs (stream .state) in
+      let full : r .full ≡ false = sym (feeds .full-is) ∙ room in
+      let none : r .held ≡ [] =
+      ap (λ (l : Bool). fed l (length (f .before)) s (heldIn stream) (f .block) .held) last
+      ∙ none-held (f .block) (length (f .before)) s (heldIn stream)
+      (ap (λ (l : Bool). fed l (length (f .before)) s (heldIn stream) (f .block) .full) (sym last) ∙ full) in
+      let line-is : feeds-onto .line ≡ [] = held-none (feeds-onto .line) (sym (feeds .held-is ∙ none) ∙ feeds-onto .held-is) in
+      let rest : at ≡ [] =
+      ap (drop (f .got .used)) (next .text-is ∙ ap (λ (l : List ℕ). f .block ++ l) (next .last-is last) ∙ append-nil (f .block))
+      ∙ ap (λ (n : ℕ). drop n (f .block)) (feeds-all feeds room)
+      ∙ drop-length (f .block) in
+      λ i. linesFrom (line-is i) (rest i)
+
+-- one, and then others
+joined : {s next : State} {all : List (List ℕ)} {held rest : List ℕ} (f : Feeding) (fs : List Feeding)
+    (o : Onto s all (take (f .got .written) (f .after)) next held rest) (l : Answered next (linesFrom (o .line) rest) fs) → (Finished (f ∷ fs) → l .later ≡ []) →
+    Answered s all (f ∷ fs)
+unfolding flatten
+joined {s} f fs o l finished = record {
+  answered = o .answered ++ l .answered;
+  later = l .later;
+  lines-are = o .lines-are ∙ ap (λ (ls : List (List ℕ)). o .answered ++ ls) (l .lines-are) ∙ sym (append-assoc (o .answered) (l .answered) (l .later));
+  text-is =
+      (λ i. o .text-is i ++ (l .text-is ∙ ap (λ (t : State). answersTo t (l .answered)) (o .state-is)) i)
+      ∙ sym (answersTo-append s (o .answered) (l .answered));
+  finished = finished;
+}
+
+-- no feeding at all
+none-yet : (s : State) (all : List (List ℕ)) → Answered s all []
+unfolding answersTo flatten Finished
+none-yet s all = record { answered = []; later = all; lines-are = refl; text-is = refl; finished = λ fin. absurd fin }
+
+so-far : (fs : List Feeding) (stream : Stream) (text line : List ℕ) → heldIn stream ≡ heldOf line → Feedings stream text fs →
+    Answered (abs (stream .state)) (linesFrom line text) fs
+unfolding Feedings Finished none-yet
+so-far [] stream text line is none = none-yet (abs (stream .state)) (linesFrom line text)
+so-far (f ∷ []) stream text line is (feeds, (next, none)) =
+    let o = feeds-onto stream text line is f feeds next in
+    joined f [] o (none-yet (abs (f .got .stream .state)) (linesFrom (o .line) (drop (f .got .used) text)))
+    (λ fin. feeds-last stream text line is f feeds next (fin .0) (fin .1))
+so-far (f ∷ g ∷ rest) stream text line is (feeds, (next, later)) =
+    let o = feeds-onto stream text line is f feeds next in
+    let l = so-far (g ∷ rest) (f .got .stream) (drop (f .got .used) text) (o .line) (o .held-is) later in
+    joined f (g ∷ rest) o l (l .finished)
+
+-- what a list of feedings writes is the answers to the lines of the text
+pub feedings-answered : {s : QoSScheduler} {stream : Stream} → Begins s stream → (text : List ℕ) (fs : List Feeding) → Feedings stream text fs →
+    Answered (abs s) (lines text) fs
+feedings-answered {s} {stream} begins text fs feedings =
+    subst (λ (t : QoSScheduler). Answered (abs t) (lines text) fs) (begins .state-is) (so-far fs stream text [] (begins .held-is) feedings)

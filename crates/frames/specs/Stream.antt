@@ -1,0 +1,121 @@
+-- Text that comes in blocks of any size, answered into buffers of any size: what is fed to a stream, and what comes back. Document 01 does not speak
+-- of blocks; what they are for is that the answers are those to the lines of the whole text, which TextClaim.antt says.
+use mathlib.Core.Bool.{Bool, true, false, cond, _&&_}
+use mathlib.Core.List.{List, [], _∷_, _++_}
+use mathlib.Core.Path.{_≡_}
+use Prim.Native.Nat.{ℕ, suc, _+_, _-_, _≤_}
+use lib.Dec.{eqb, leb}
+use lib.ListN.{length, take}
+use lib.Seq.{sets}
+use Rattle.scheduler.specs.declared.scheduler.QoSScheduler.{QoSScheduler}
+use Rattle.scheduler.specs.Scheduler.{abs, Valid}
+use Rattle.scheduler.specs.State.{State}
+use Rattle.frames.specs.declared.stream.Fed.{Fed}
+use Rattle.frames.specs.declared.stream.Stream.{Stream}
+use Rattle.frames.specs.Bytes.{Puts}
+use Rattle.frames.specs.Lines.{newline, some, lineText, answerTo, stateAfter}
+
+-- ---- what a block makes of a state and of the start of a line
+
+-- no frame has more digits
+abbrev pub longestLine : ℕ
+longestLine = 60
+
+-- What is held of a line: of one that is longer than any frame only so much that this shows, since it is refused whatever follows.
+abbrev pub heldOf : List ℕ → List ℕ
+heldOf line = take (longestLine + 1) line
+
+pub record Reached : Type 0 where
+  -- the answers
+  pub text : List ℕ
+  -- how many bytes of the block are done with
+  pub used : ℕ
+  -- the state after the lines that are answered, and what is held of the next one
+  pub state : State
+  pub held : List ℕ
+  -- whether that line is at its end, and its answer has no room
+  pub full : Bool
+
+-- nothing more is answered
+abbrev pub waits : Bool → State → List ℕ → Reached
+waits full s held = record { text = []; used = 0; state = s; held = held; full = full }
+
+-- this answer before the others
+abbrev pub answering : List ℕ → Reached → Reached
+answering text r = record { text = text ++ r .text; used = r .used; state = r .state; held = r .held; full = r .full }
+
+-- one more byte of the block
+abbrev pub pastByte : Reached → Reached
+pastByte r = record { text = r .text; used = suc (r .used); state = r .state; held = r .held; full = r .full }
+
+-- the line that is held is at its end: it is answered and then comes what follows, unless its answer has no room
+abbrev pub ended : ℕ → State → List ℕ → Reached → Reached
+ended room s held next = cond (leb (length (answerTo held s)) room) (answering (answerTo held s) next) (waits true s held)
+
+-- The bytes of a block, one after the other: a newline ends the line that is held, any other byte goes on with it. The end of the block ends it only
+-- where the block is the last, and where there is a line at all.
+unfoldable pub fed : Bool → ℕ → State → List ℕ → List ℕ → Reached
+fed last room s held [] = cond (last && some held) (ended room s held (waits false (stateAfter held s) [])) (waits false s held)
+fed last room s held (b ∷ block) =
+    cond (eqb b newline)
+    (ended room s held (pastByte (fed last (room - length (answerTo held s)) (stateAfter held s) [] block)))
+    (pastByte (fed last room s (heldOf (held ++ (b ∷ []))) block))
+
+-- ---- what the functions promise
+
+-- what a stream holds of a line that is not answered yet
+unfoldable pub heldIn : Stream → List ℕ
+heldIn stream = take (stream .len) (stream .held)
+
+-- a stream that came from `new` or from an earlier feeding
+pub record ValidStream (stream : Stream) : Type 0 where
+  pub valid : Valid (stream .state)
+  pub places : length (stream .held) ≡ longestLine + 1
+  pub within : stream .len ≤ longestLine + 1
+
+-- a stream over a scheduler, at the start of a line
+pub record Begins (s : QoSScheduler) (stream : Stream) : Type 0 where
+  pub valid : ValidStream stream
+  pub state-is : stream .state ≡ s
+  pub held-is : heldIn stream ≡ []
+
+-- what a block makes of a stream, with so much room
+abbrev pub reachedBy : Bool → Stream → List ℕ → ℕ → Reached
+reachedBy last stream block room = fed last room (abs (stream .state)) (heldIn stream) block
+
+-- A block fed to a stream: what is reached stands in the stream, its text at the front of the buffer, and behind that the buffer is as it was.
+-- `written-in` follows from the other fields and stands there for callers.
+pub record Feeds (last : Bool) (stream : Stream) (block before after : List ℕ) (r : Fed) : Type 0 where
+  pub valid : ValidStream (r .stream)
+  pub state-is : abs (r .stream .state) ≡ reachedBy last stream block (length before) .state
+  pub held-is : heldIn (r .stream) ≡ reachedBy last stream block (length before) .held
+  pub used-is : r .used ≡ reachedBy last stream block (length before) .used
+  pub full-is : r .«is_full» ≡ reachedBy last stream block (length before) .full
+  pub written-is : r .written ≡ length (reachedBy last stream block (length before) .text)
+  pub written-in : r .written ≤ length before
+  pub buffer-is : after ≡ sets before 0 (reachedBy last stream block (length before) .text)
+
+-- ---- what the private parts promise
+
+-- a line of text as far as it has room: all of it, or nothing
+abbrev pub fitting : ℕ → List ℕ → List ℕ
+fitting room line = cond (leb (length line) room) line []
+
+-- an answer as a line of text from a place on, if it has room there
+abbrev pub PutsLine : List ℕ → ℕ → List ℕ → List ℕ → ℕ → Type 0
+PutsLine bytes at before after r = Puts (fitting (length before - at) (lineText bytes)) at before after r
+
+-- so many bytes are held of a line, and now more of it
+pub record Holds (len : ℕ) (line before after : List ℕ) (r : ℕ) : Type 0 where
+  pub within : r ≤ longestLine + 1
+  pub places : length after ≡ longestLine + 1
+  pub held-is : take r after ≡ heldOf (take len before ++ line)
+
+-- the stream with more of its line held, and the other parts as they are given
+pub record Stops (stream : Stream) (line : List ℕ) (used written : ℕ) (full : Bool) (r : Fed) : Type 0 where
+  pub valid : ValidStream (r .stream)
+  pub state-is : r .stream .state ≡ stream .state
+  pub held-is : heldIn (r .stream) ≡ heldOf (heldIn stream ++ line)
+  pub used-is : r .used ≡ used
+  pub written-is : r .written ≡ written
+  pub full-is : r .«is_full» ≡ full
