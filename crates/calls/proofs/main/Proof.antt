@@ -1,33 +1,20 @@
--- `main` ends: its turns are counted down. At each, what is written and the answers to what is held, whatever follows, are the answers to all that
--- was read (`Turning`), and at most 61 bytes are held, so that there is room to read. Assumes nothing.
-use mathlib.Core.Path.{_≡_}
-use Prim.Native.Nat.{_≤_}
-use native.Mathlib.Omega.{arith}
+-- `main` ends: its turns are counted down. Assumes nothing.
+use mathlib.Core.Path.{_≡_, sym}
 use borrow.Author.Needs.{needs}
-use borrow.Author.Tests.{not-false}
-use lib.ListN.{length, take}
-use Rattle.calls.proofs.Turns.{Turning, begin, turn}
+use lib.ListN.{length}
+use lib.Seq.{length-take-le}
+use Rattle.frames.specs.Stream.{ValidStream}
 use Rattle.calls.proofs.main.Statement.{statement}
 use Rattle.calls.proofs.main.Tie as tie
 
 abbrev Inv-loop : tie.InvT-loop
-Inv-loop state₀ input₀ held₀ turns₀ state input held turns =
-    Turning state₀ state (take held input) × (length input ≡ 65536) × (held ≤ 61)
+Inv-loop stream₀ input₀ out₀ turns₀ stream input out turns = ValidStream stream × (length input ≡ 65536) × (length out ≡ 65536)
 
 abbrev μ-loop : tie.MeasureT-loop
-μ-loop state₀ input₀ held₀ turns₀ state input held turns = turns
+μ-loop stream₀ input₀ out₀ turns₀ stream input out turns = turns
 
-loop-holds : tie.Need-loop-holds Inv-loop μ-loop
-loop-holds c = (begin (c .before .new .ensures .valid), search needs, omega arith)
-
-loop-again : tie.Need-loop-again Inv-loop μ-loop
-loop-again c =
-    let tested = c .before .before .before .before in
-    let answered = tested .before .before .before .before in
-    let block = answered .before .before .before in
-    let next = turn (block .before .before .before .loop .inv .0) (block .read-block .ensures) (answered .answer-all .ensures) (c .before .keep-rest .ensures) in
-    let both = next (tested .before .before .before .if1 .left) (not-false _ (tested .if3 .left)) in
-    (both .0, search needs, both .1)
+slice-aggregate-answer-block : tie.Need-slice-aggregate-answer-block Inv-loop μ-loop
+slice-aggregate-answer-block c = sym (length-take-le _ _ (search needs))
 
 pub main-spec : {M : Type 1} → statement M
 main-spec =
@@ -37,16 +24,20 @@ main-spec =
     μ-loop
     (λ c κs. search needs)
     (λ c κs. search needs)
-    loop-holds
+    (λ c κs. search needs)
+    (λ c κs. search needs)
+    (λ c. search needs)
     (λ c. search needs)
     (λ c. search needs)
     (λ c κs. search needs)
     (λ c. search needs)
     (λ c κs. search needs)
+    (λ c. search needs)
+    slice-aggregate-answer-block
+    (λ c. search needs)
+    (λ c κs. search needs)
     (λ c κs. search needs)
     (λ c. search needs)
     (λ c. search needs)
-    (λ c κs. search needs)
     (λ c. search needs)
-    loop-again
     (λ c. search needs))
