@@ -6,8 +6,10 @@
 ghost use mathlib.Core.Path.{_≡_};
 ghost use Prim.Native.Nat.{_≤_};
 ghost use lib.ListN.{length};
+ghost use Rattle.frames.specs.Stream.{ValidStream};
+ghost use Rattle.replay.specs.Counted.{isName, Compares, Replays};
 ghost use Rattle.replay.specs.Stored.{asStored};
-ghost use Rattle.scheduler.specs.Scheduler.{Valid};
+use frames::Stream;
 use libc::STDIN_FILENO;
 use libc::STDOUT_FILENO;
 use scheduler::QoSScheduler;
@@ -23,7 +25,7 @@ const ANY: u8 = b'.';
 
 // Where a replay stands.
 struct Replay {
-    state: QoSScheduler,
+    stream: Stream,
     // How many bytes the last frame's answer has that waits for the stored one; 0 where a frame or a name comes next.
     waiting: usize,
     lists: u64,
@@ -33,7 +35,7 @@ struct Replay {
 
 fn main() {
     let mut replay = Replay {
-        state: QoSScheduler::new(),
+        stream: Stream::new(QoSScheduler::new()),
         waiting: 0,
         lists: 0,
         calls: 0,
@@ -75,42 +77,50 @@ fn read_line(line: &mut [u8]) -> usize
 
 // One line, with its newline: the stored answer to the last frame, or a list's name, or a frame.
 fn replay_line(replay: Replay, line: &[u8], answer: &mut [u8]) -> Replay
-    requires { ⌜ Valid (replay .state) × (replay .waiting ≤ length (now answer)) ⌝ }
-    ensures { λ r. ⌜ Valid (r .state) × (r .waiting ≤ length (now (answer .exit))) ⌝ }
+    requires { ⌜ ValidStream (replay .stream) × (replay .waiting ≤ length (now answer)) ⌝ }
+    ensures { λ r. ⌜ Replays replay (now (line .entry)) (now (answer .entry)) (now (answer .exit)) r ⌝ }
 {
     if 0 < replay.waiting {
         return compared(replay, line, answer);
     }
-    if 0 < line.len() {
-        if line[0] == NAME {
-            return Replay {
-                state: QoSScheduler::new(),
-                waiting: 0,
-                lists: std::num::wrapping_add_u64(replay.lists, 1),
-                calls: replay.calls,
-                differences: replay.differences,
-            };
-        }
+    if begins_list(line) {
+        return Replay {
+            stream: Stream::new(QoSScheduler::new()),
+            waiting: 0,
+            lists: std::num::wrapping_add_u64(replay.lists, 1),
+            calls: replay.calls,
+            differences: replay.differences,
+        };
     }
-    let state = replay.state;
-    let answered = frames::answer_text(state, line, false, answer);
-    let next = answered.state;
+    let stream = replay.stream;
+    let fed = stream.feed(line, false, answer);
+    let next = fed.stream;
     Replay {
-        state: next,
-        waiting: answered.written,
+        stream: next,
+        waiting: fed.written,
         lists: replay.lists,
         calls: replay.calls,
         differences: replay.differences,
     }
 }
 
+// Whether a line is a list's name.
+fn begins_list(line: &[u8]) -> bool
+    ensures { λ r. ⌜ r ≡ isName (now (line .entry)) ⌝ }
+{
+    if line.len() == 0 {
+        return false;
+    }
+    line[0] == NAME
+}
+
 // The answer that waits, held against the stored one; a difference is printed with both.
 fn compared(replay: Replay, stored: &[u8], answer: &[u8]) -> Replay
-    requires { ⌜ Valid (replay .state) × (replay .waiting ≤ length (now answer)) ⌝ }
-    ensures { λ r. ⌜ Valid (r .state) × (r .waiting ≡ 0) ⌝ }
+    requires { ⌜ ValidStream (replay .stream) × (replay .waiting ≤ length (now answer)) ⌝ }
+    ensures { λ r. ⌜ Compares replay (now (stored .entry)) (now (answer .entry)) r ⌝ }
 {
     let waiting = replay.waiting;
-    let state = replay.state;
+    let stream = replay.stream;
     let calls = std::num::wrapping_add_u64(replay.calls, 1);
     let mut differences = replay.differences;
     if !is_as_stored(&answer[..waiting], stored) {
@@ -118,7 +128,7 @@ fn compared(replay: Replay, stored: &[u8], answer: &[u8]) -> Replay
         show_difference(replay.lists, calls, stored, &answer[..waiting]);
     }
     Replay {
-        state,
+        stream,
         waiting: 0,
         lists: replay.lists,
         calls,

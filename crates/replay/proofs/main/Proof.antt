@@ -4,12 +4,13 @@ use Prim.Native.Nat.{_≤_}
 use borrow.Author.Needs.{needs}
 use lib.ListN.{length}
 use lib.Seq.{length-take-le}
-use Rattle.scheduler.specs.Scheduler.{Valid}
+use Rattle.frames.specs.Stream.{ValidStream}
 use Rattle.replay.proofs.main.Statement.{statement}
 use Rattle.replay.proofs.main.Tie as tie
 
 abbrev Inv-loop : tie.InvT-loop
-Inv-loop replay₀ line₀ answer₀ turns₀ replay line answer turns = Valid (replay .state) × (length line ≡ 256) × (length answer ≡ 256) × (replay .waiting ≤ 256)
+Inv-loop replay₀ line₀ answer₀ turns₀ replay line answer turns =
+    ValidStream (replay .stream) × (length line ≡ 256) × (length answer ≡ 256) × (replay .waiting ≤ 256)
 
 abbrev μ-loop : tie.MeasureT-loop
 μ-loop replay₀ line₀ answer₀ turns₀ replay line answer turns = turns
@@ -23,6 +24,7 @@ main-spec =
     (tie.spec
     Inv-loop
     μ-loop
+    (λ c κs. search needs)
     (λ c κs. search needs)
     (λ c. search needs)
     (λ c. search needs)
