@@ -1,7 +1,6 @@
 -- What a call promises, from what it did: any call, one that is refused or changes nothing, and one that ends as another does; and what a pick
 -- promises, told as a slot or as a plan. Assumes nothing.
 use mathlib.Core.Path.{_≡_, refl, sym, ap, _∙_, subst}
-use mathlib.Core.Bool.{cond}
 use mathlib.Core.List.{List}
 use Prim.Native.Nat.{ℕ}
 use lib.ListN.{set}
@@ -14,7 +13,6 @@ use Rattle.scheduler.specs.declared.answer.Answer.{Answer}
 use Rattle.scheduler.specs.declared.answer.ContextSwitchTarget.{ContextSwitchTarget}
 use Rattle.scheduler.specs.declared.answer.ContextSwitchTarget.the-variants.{Task}
 use Rattle.scheduler.specs.declared.answer.PickOption.the-variants as pick
-use Rattle.scheduler.specs.declared.answer.PlanOption.the-variants as plan
 use Rattle.scheduler.specs.declared.answer.Value.{Value}
 use Rattle.scheduler.specs.declared.answer.Value.the-variants as value
 use Rattle.scheduler.specs.declared.call.Call.{Call}
@@ -25,7 +23,7 @@ use Rattle.scheduler.specs.declared.scheduler.Reply.{Reply}
 use Rattle.scheduler.specs.State.{State, Queues, task}
 use Rattle.scheduler.specs.Accepted.{Accepted}
 use Rattle.scheduler.specs.Outcome.{Outcome, Chosen, answered, done, refused}
-use Rattle.scheduler.specs.Ticking.{targetOf, same}
+use Rattle.scheduler.specs.Ticking.{targetOf, planTo}
 use Rattle.scheduler.specs.Step.{step}
 use Rattle.scheduler.specs.Scheduler.{queuesOf, abs, Whole, Valid, Meets, toldBy, refusedBy, Gives, answerIn, targetWith, whoRuns, Hold}
 use Rattle.scheduler.proofs.Calls.{call-accepted}
@@ -112,7 +110,7 @@ gives-chosen form.Slot previous c cr3 ok is w answer state =
 gives-chosen form.Plan previous c cr3 ok is w answer state = record {
   valid = record { whole = w; accepted = subst Accepted (sym state) ok };
   answer-is = answer ∙ ap
-      (λ (t : ContextSwitchTarget). answered (c .pick) (value.Plan (cond (same previous (c .next)) plan.None (plan.Some (record { «prev_task_idx» = previous; target = t })))))
+      (λ (t : ContextSwitchTarget). answered (c .pick) (value.Plan (planTo previous (c .next) t)))
       (target-known (c .next) (c .state) cr3 is);
   state-is = state;
 }

@@ -1,6 +1,5 @@
 -- The stored scheduler: what it holds, which ones are valid, and what every call promises of it.
 use mathlib.Core.Path.{_≡_}
-use mathlib.Core.Bool.{cond}
 use mathlib.Core.List.{List, [], map}
 use lib.ListN.{length, getD}
 use Prim.Native.Nat.{ℕ}
@@ -25,7 +24,7 @@ use Rattle.scheduler.specs.State.{State, Queues, newState}
 use Rattle.scheduler.specs.Outcome.{Outcome, Chosen, answered, refusal}
 use Rattle.scheduler.specs.Accepted.{Accepted, Each}
 use Rattle.scheduler.specs.Picking.{answerSlot}
-use Rattle.scheduler.specs.Ticking.{same, answerPlan}
+use Rattle.scheduler.specs.Ticking.{planTo, answerPlan}
 use Rattle.scheduler.specs.Step.{step}
 
 -- "three queues, one a band, held together as one array": a band's queue stands at the band's code
@@ -97,8 +96,7 @@ targetWith (slot.Some n) cr3 = Task n cr3
 
 abbrev pub whoRuns : Form → SlotOption → SlotOption → ℕ → Value
 whoRuns form.Slot previous next cr3 = value.Slot next
-whoRuns form.Plan previous next cr3 =
-    value.Plan (cond (same previous next) plan.None (plan.Some (record { «prev_task_idx» = previous; target = targetWith next cr3 })))
+whoRuns form.Plan previous next cr3 = value.Plan (planTo previous next (targetWith next cr3))
 
 -- a whole array of queues with these entries
 pub record Hold (qs : List BandQueue) (q : Queues) : Type 0 where

@@ -87,8 +87,12 @@ same (slot.Some p) (slot.Some n) = eqb (p .0) (n .0)
 
 -- "A plan gives the previous holder or none, and the target [..]. There is no plan when the pick (for the plan call, the tick's answer)
 -- equals the previous holder, or both are none."
+abbrev pub planTo : SlotOption → SlotOption → ContextSwitchTarget → PlanOption
+planTo previous next target = cond (same previous next) plan.None (plan.Some (record { «prev_task_idx» = previous; target = target }))
+
+-- to the slot as the state has it
 abbrev pub planOf : SlotOption → SlotOption → State → PlanOption
-planOf previous next s = cond (same previous next) plan.None (plan.Some (record { «prev_task_idx» = previous; target = targetOf next s }))
+planOf previous next s = planTo previous next (targetOf next s)
 
 abbrev pub answerPlan : SlotOption → Chosen → Outcome
 answerPlan previous c = chosenAs (value.Plan (planOf previous (c .next) (c .state))) c
