@@ -63,14 +63,6 @@ module _ {call : Call} {s : QoSScheduler} (v : Valid s) where
 pub kept : {s : QoSScheduler} → Valid s → Hold (s .queues) (queuesOf (s .queues))
 kept v = record { whole = v .whole; entries-are = refl }
 
--- the call goes on as another, from another state
-pub meets-as : {call other : Call} {s t : QoSScheduler} {r : Reply} → Meets other t r → step call (abs s) ≡ step other (abs t) → Meets call s r
-meets-as m by = record {
-  valid = m .valid;
-  answer-is = m .answer-is ∙ ap (λ (p : Outcome). p .answer) (sym by);
-  state-is = m .state-is ∙ ap (λ (p : Outcome). p .state) (sym by);
-}
-
 -- what was given is what the rules make of the call
 pub meets-given : {call : Call} {s : QoSScheduler} {o : Outcome} {r : Reply} → Gives o r → step call (abs s) ≡ o → Meets call s r
 meets-given g by = record {
@@ -78,6 +70,10 @@ meets-given g by = record {
   answer-is = g .answer-is ∙ ap (λ (p : Outcome). p .answer) (sym by);
   state-is = g .state-is ∙ ap (λ (p : Outcome). p .state) (sym by);
 }
+
+-- the call goes on as another, from another state
+pub meets-as : {call other : Call} {s t : QoSScheduler} {r : Reply} → Meets other t r → step call (abs s) ≡ step other (abs t) → Meets call s r
+meets-as m by = meets-given (record { valid = m .valid; answer-is = m .answer-is; state-is = m .state-is }) by
 
 -- of the scheduler that the call found, by the name that it was given first
 pub meets-from : {call : Call} {s t : QoSScheduler} {r : Reply} → s ≡ t → Meets call s r → Meets call t r
