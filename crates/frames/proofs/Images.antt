@@ -23,6 +23,7 @@ use Rattle.queue.proofs.Rules.{length-places}
 use Rattle.scheduler.specs.Accepted.{Each, Accepted}
 use Rattle.scheduler.specs.Paper.{recordNumbers, flagNumber}
 use Rattle.scheduler.specs.State.{State, noneByte, task, queue, holder}
+use Rattle.scheduler.proofs.Invariant.{no-holder}
 use Rattle.scheduler.proofs.Stored.{read-any}
 use Rattle.frames.specs.AcceptedImage.{AcceptedImage, bandByte, stateByte, inUseByte}
 use Rattle.frames.specs.Answer.{recordWidths, recordBytes}
@@ -193,8 +194,7 @@ holder-byte image core whole h =
 -- and a core of 64 and above has none
 pub holder-past : (image : List ℕ) (core : ℕ) → length image ≡ imageLength → 64 ≤ core → holder (stateAt image) core ≡ noneByte
 unfolding stateAt
-holder-past image core whole h =
-    List·getD-eq-default (part holdersPlace 64 image) noneByte (omega (arith, h, length-part holdersPlace 64 image (omega (arith, whole))))
+holder-past image core whole h = no-holder (stateAt image) (length-part holdersPlace 64 image (omega (arith, whole))) core h
 
 -- ---- a queue
 

@@ -93,6 +93,10 @@ pub used-in-table : (s : State) → length (s .tasks) ≡ 64 → (slot : ℕ) �
 used-in-table s whole slot used =
     in-table s whole slot (λ e. true≢false (sym used ∙ ap (λ (t : TaskControlBlock). t .«in_use») e))
 
+-- a core of 64 and above has no holder
+pub no-holder : (s : State) → length (s .holders) ≡ 64 → (core : ℕ) → 64 ≤ core → holder s core ≡ noneByte
+no-holder s whole core past = List·getD-eq-default (s .holders) noneByte (omega (arith, whole, past))
+
 -- ---- a queue has room for whoever is not in it
 
 module _ (s : State) (k : Invariant s) where

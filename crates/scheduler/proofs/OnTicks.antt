@@ -7,7 +7,7 @@ use Prim.Native.Nat.{ℕ, _+_, _%_, _^_, _≤_, _<_}
 use native.Mathlib.Omega.{arith}
 use borrow.Author.Tests.{le-leb, lt-leb, leb-true}
 use lib.Dec.{leb}
-use lib.ListN.{length, getD, set, List·getD-eq-default}
+use lib.ListN.{length, getD, set}
 use lib.Seq.{getD-set-same, set-set}
 use Rattle.records.specs.declared.ids.Slot.{Slot}
 use Rattle.records.specs.declared.ids.SlotOption.{SlotOption}
@@ -32,7 +32,7 @@ use Rattle.scheduler.specs.declared.picking.Form.{Form}
 use Rattle.scheduler.specs.declared.picking.Form.the-variants as form
 use Rattle.scheduler.specs.declared.scheduler.QoSScheduler.{QoSScheduler}
 use Rattle.scheduler.specs.declared.scheduler.Reply.{Reply}
-use Rattle.scheduler.specs.State.{State, noneByte, task, queue, holderIn, holderOf, withTask, withBand, withQueue}
+use Rattle.scheduler.specs.State.{State, task, queue, holderIn, holderOf, withTask, withBand, withQueue}
 use Rattle.scheduler.specs.Accepted.{Accepted}
 use Rattle.scheduler.specs.Outcome.{Chosen, answered, done}
 use Rattle.scheduler.specs.Picking.{noChoice, ruleP}
@@ -42,6 +42,7 @@ use Rattle.scheduler.specs.Scheduler.{queuesOf, abs, Whole, Valid, Meets
 use Rattle.scheduler.proofs.Calls.{call-accepted}
 use Rattle.scheduler.proofs.Effects.{slice-ends}
 use Rattle.scheduler.proofs.Holders.{harmless-accepted, known, held, holder-may, holder-below, let-go, let-go-is}
+use Rattle.scheduler.proofs.Invariant.{no-holder}
 use Rattle.scheduler.proofs.Moves.{Harmless, time}
 use Rattle.scheduler.proofs.Promises.{meets-given, gives-chosen, gives-as}
 use Rattle.scheduler.proofs.Stored.{record-at, pushed-back}
@@ -85,9 +86,8 @@ module _ {s : QoSScheduler} (v : Valid s) (core elapsed : ℕ) where
   unfolding ticked
   ticked-past past = rw (le-leb 64 core past) refl
 
-  -- it has no holder
   none-held : 64 ≤ core → holderOf (abs s) core ≡ slot.None
-  none-held past = ap holderIn (List·getD-eq-default (abs s .holders) noneByte (omega (arith, v .accepted .cores)))
+  none-held past = ap holderIn (no-holder (abs s) (v .accepted .cores) core past)
 
   pub tick-past : (f : Form) {r : Reply} {x : Value} → 64 ≤ core → x ≡ whoRuns f slot.None slot.None 0 → r ≡ toldBy s x → Ticks f s core elapsed r
   tick-past f past x-is is = gives-as f (sym (none-held past)) (sym (ticked-past past))
