@@ -33,7 +33,7 @@ use Rattle.frames.specs.AcceptedImage.{AcceptedImage, acceptsImage}
 use Rattle.frames.specs.Answer.{answerBytes}
 use Rattle.frames.specs.Bytes.{Puts}
 use Rattle.frames.specs.Frame.{frameCall}
-use Rattle.frames.specs.Host.{hostNumber, refusalReturned, answerRoom, imageStatus, ReadAs, OnImage, onImage, calledOn, callOnImage, made, hostNew, Hosted, hosted, hostRefused, hostCalled, hostStep, refusalIn, Answers}
+use Rattle.frames.specs.Host.{hostNumber, refusalReturned, answerRoom, imageStatus, ReadAs, OnImage, onImage, calledIn, callOnImage, made, hostNew, Hosted, hosted, hostRefused, hostCalled, hostStep, refusalIn, CalledOn}
 use Rattle.frames.specs.Image.{imageLength, imageOf, stateAt}
 use Rattle.frames.specs.ImageParts.{WritesImage}
 use Rattle.frames.proofs.Images.{writes-back}
@@ -77,13 +77,13 @@ module _ (call : Call) (before : List ℕ) {s : QoSScheduler} (from : ReadAs (st
   left-is = meets .state-is ∙ ap (λ (t : State). step call t .state) (from .state-is)
 
   -- the ways out of a call on an accepted image
-  pub answers-refused : {e : SchedError} → AcceptedImage before → reply .answer .status ≡ status.Refused e → Answers call before before (reply .answer)
+  pub answers-refused : {e : SchedError} → AcceptedImage before → reply .answer .status ≡ status.Refused e → CalledOn call before before (reply .answer)
   answers-refused a is = record {
     answer-is = told-is;
     image-is = sym (refused-image before a call (ap (λ (r : Answer). r .status) (sym told-is) ∙ is));
   }
 
-  pub answers-done : {after : List ℕ} → after ≡ imageOf (abs (reply .state)) → Answers call before after (reply .answer)
+  pub answers-done : {after : List ℕ} → after ≡ imageOf (abs (reply .state)) → CalledOn call before after (reply .answer)
   answers-done is = record { answer-is = told-is; image-is = is ∙ ap imageOf left-is }
 
   -- and which records need not be written
@@ -96,13 +96,13 @@ module _ (call : Call) (before : List ℕ) {s : QoSScheduler} (from : ReadAs (st
 module _ (call : Call) {before : List ℕ} {st : ImageStatus} (is : st ≡ imageStatus before) where
   pub called-refused : {e : HostError} → st ≡ read.Refused e → onImage (told.Refused e) before ≡ callOnImage call before
   unfolding callOnImage
-  called-refused refused = ap (λ (t : ImageStatus). calledOn t call before) (sym refused ∙ is)
+  called-refused refused = ap (λ (t : ImageStatus). calledIn t call before) (sym refused ∙ is)
 
-  pub called-done : {after : List ℕ} {r : Answer} → st ≡ read.Accepted → Answers call before after r →
+  pub called-done : {after : List ℕ} {r : Answer} → st ≡ read.Accepted → CalledOn call before after r →
       onImage (told.Answered r) after ≡ callOnImage call before
   unfolding callOnImage
   called-done accepted answers =
-      (λ i. onImage (told.Answered (answers .answer-is i)) (answers .image-is i)) ∙ ap (λ (t : ImageStatus). calledOn t call before) (sym accepted ∙ is)
+      (λ i. onImage (told.Answered (answers .answer-is i)) (answers .image-is i)) ∙ ap (λ (t : ImageStatus). calledIn t call before) (sym accepted ∙ is)
 
 -- ---- a frame on an image
 
@@ -124,13 +124,13 @@ module _ (image answer : List ℕ) where
   on-none read.Accepted = refl
 
   module _ (call : Call) {after : List ℕ} where
-    on-refused : (st : ImageStatus) {e : HostError} → told.Refused e ≡ calledOn st call image .answer → after ≡ calledOn st call image .image →
+    on-refused : (st : ImageStatus) {e : HostError} → told.Refused e ≡ calledIn st call image .answer → after ≡ calledIn st call image .image →
         hosted (refusalReturned e) after answer ≡ hostOn st (Some call)
     on-refused (read.Refused f) {e} is at = let same : e ≡ f = cc in λ i. hosted (refusalReturned (same i)) (at i) answer
     on-refused read.Accepted is at = let never : _≡_ {A = ℕ} 0 1 = cc in absurd (omega arith)
 
-    on-answered : (st : ImageStatus) {a : Answer} {out : List ℕ} {n : ℕ} → told.Answered a ≡ calledOn st call image .answer →
-        after ≡ calledOn st call image .image → Puts (answerBytes a) 0 answer out n → hosted n after out ≡ hostOn st (Some call)
+    on-answered : (st : ImageStatus) {a : Answer} {out : List ℕ} {n : ℕ} → told.Answered a ≡ calledIn st call image .answer →
+        after ≡ calledIn st call image .image → Puts (answerBytes a) 0 answer out n → hosted n after out ≡ hostOn st (Some call)
     on-answered (read.Refused f) is at puts = let never : _≡_ {A = ℕ} 0 1 = cc in absurd (omega arith)
     on-answered read.Accepted {a} is at puts =
         let same : a ≡ step call (stateAt image) .answer = cc in
@@ -157,11 +157,11 @@ module _ (image frame answer : List ℕ) where
         ∙ by-status
 
     module _ {call : Call} (some : c ≡ Some call) {after : List ℕ} {r : ImageAnswer} (called : onImage r after ≡ callOnImage call image) where
-      called-answer : r ≡ calledOn (imageStatus image) call image .answer
+      called-answer : r ≡ calledIn (imageStatus image) call image .answer
       unfolding callOnImage
       called-answer = ap (λ (o : OnImage). o .answer) called
 
-      called-image : after ≡ calledOn (imageStatus image) call image .image
+      called-image : after ≡ calledIn (imageStatus image) call image .image
       unfolding callOnImage
       called-image = ap (λ (o : OnImage). o .image) called
 

@@ -76,12 +76,12 @@ abbrev pub onImage : ImageAnswer → List ℕ → OnImage
 onImage answer image = record { answer = answer; image = image }
 
 -- "the image then holds the state after the call"; refused images stay as they are
-abbrev pub calledOn : ImageStatus → Call → List ℕ → OnImage
-calledOn (read.Refused e) call image = onImage (told.Refused e) image
-calledOn read.Accepted call image = onImage (told.Answered (step call (stateAt image) .answer)) (imageOf (step call (stateAt image) .state))
+abbrev pub calledIn : ImageStatus → Call → List ℕ → OnImage
+calledIn (read.Refused e) call image = onImage (told.Refused e) image
+calledIn read.Accepted call image = onImage (told.Answered (step call (stateAt image) .answer)) (imageOf (step call (stateAt image) .state))
 
 unfoldable pub callOnImage : Call → List ℕ → OnImage
-callOnImage call image = calledOn (imageStatus image) call image
+callOnImage call image = calledIn (imageStatus image) call image
 
 -- ---- a new image (added: document 01 has a host pass images, and does not say where it gets its first)
 
@@ -143,6 +143,6 @@ abbrev pub refusalOf : List ℕ → HostError
 refusalOf image = refusalIn (imageStatus image)
 
 -- a call on an accepted image: its answer, and the image of the state after it
-pub record Answers (call : Call) (before after : List ℕ) (answer : Answer) : Type 0 where
+pub record CalledOn (call : Call) (before after : List ℕ) (answer : Answer) : Type 0 where
   pub answer-is : answer ≡ step call (stateAt before) .answer
   pub image-is : after ≡ imageOf (step call (stateAt before) .state)

@@ -1,7 +1,7 @@
 // What a host kernel calls: a new image, and a frame on an image with its answer in a buffer; and any call on an image.
 ghost use mathlib.Core.Path.{_≡_};
 ghost use Rattle.frames.specs.AcceptedImage.{AcceptedImage};
-ghost use Rattle.frames.specs.Host.{refusalReturned, refusalOf, onImage, callOnImage, Answers, made, hostNew, hosted, hostStep};
+ghost use Rattle.frames.specs.Host.{refusalReturned, refusalOf, onImage, callOnImage, CalledOn, made, hostNew, hosted, hostStep};
 use crate::decode::CallOption;
 use crate::decode::read_frame;
 use crate::encode::ANSWER_MAX;
@@ -94,7 +94,7 @@ pub fn call_on_image(image: &mut [u8], call: Call) -> ImageAnswer
 // A call on an accepted image. Of the records only those that the call can have changed are written.
 fn call_on_accepted(image: &mut [u8], call: Call) -> Answer
     requires { ⌜ AcceptedImage (now image) ⌝ }
-    ensures { λ r. ⌜ Answers call (now (image .entry)) (now (image .exit)) r ⌝ }
+    ensures { λ r. ⌜ CalledOn call (now (image .entry)) (now (image .exit)) r ⌝ }
 {
     let named = named_slot(call, image);
     let state = state_at(image);
