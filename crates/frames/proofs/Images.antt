@@ -28,17 +28,11 @@ use Rattle.scheduler.proofs.Stored.{read-any}
 use Rattle.frames.specs.AcceptedImage.{AcceptedImage, bandByte, stateByte, inUseByte}
 use Rattle.frames.specs.Answer.{recordWidths, recordBytes}
 use Rattle.frames.specs.Bytes.{AllBytes, bytesOf, bigEndian, part, numberAt, total}
-use Rattle.frames.specs.Image.{recordLength, queueLength, recordPlace, queuesPlace, queuePlace, holdersPlace, microsPlace, imageLength}
+use Rattle.frames.specs.Image.{recordLength, queueLength, recordPlace, queuePlace, holdersPlace, microsPlace, imageLength}
 use Rattle.frames.specs.Image.{recordsBytes, queueBytes, queuesBytes, imageOf, orEmptyBand, bandOf, orEmptyState, stateOf, recordOf, recordIn, recordsIn, recordAt, queueAt, lengthByte, slotByte, queueIn, stateAt, FitsImage, FitsRecord}
 use Rattle.frames.proofs.Numbers.{length-bytesOf, bigEndian-bytesOf}
 use Rattle.frames.proofs.Sizes.{length-recordBytes}
 use Rattle.frames.proofs.Widths.{length-part, bytes-part, piecesAt, pieces-flatten, flatten-pieces, length-flatten, bytesOf-numberAt, numbersAt-written, written-numbersAt}
-
--- ---- the table
-
--- document 01's own numbers
-pub sizes : (recordLength ≡ 47) × (queuesPlace ≡ 3008) × (3 * queueLength ≡ 195) × (imageLength ≡ 3275)
-sizes = (refl, refl, refl, refl)
 
 -- ---- codes
 

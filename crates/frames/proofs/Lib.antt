@@ -9,6 +9,7 @@
 --   Refused         lines that are no frame, those longer than any frame among them
 --   Streams         text in blocks: nothing is lost, nothing answered twice, however it is cut
 --   Example         document 01's five lines, computed
+--   Figures         document 01's numbers, each beside the definition that has it
 --   Images          a state's image: written and read back
 --   AcceptedImages  the test of acceptance; accepted images and accepted states
 --   Typed           a scheduler's numbers fit the fields of an image, by their types
@@ -34,6 +35,7 @@ pub mod Sizes
 pub mod Refused
 pub mod Streams
 pub mod Example
+pub mod Figures
 pub mod Images
 pub mod AcceptedImages
 pub mod Typed
