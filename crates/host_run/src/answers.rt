@@ -115,6 +115,30 @@ pub(crate) fn largest_sums(image: [u8; IMAGE]) {
     show_record(b"slot 0", image, 0);
 }
 
+// The same sentence at its border, and at 2^63, where nothing happens. Nobody waits, so that only the time changes.
+pub(crate) fn borders_of_time(new: [u8; IMAGE]) {
+    time_from(new, 127);
+    time_from(new, 255);
+}
+
+// Time goes by from 2^63 - 1 or 2^64 - 1: the first of its bytes is `first`, and all others are 255.
+fn time_from(new: [u8; IMAGE], first: u8) {
+    let late = with(with(new, MICROS, first), MICROS + 1, 255);
+    let late = with(with(late, MICROS + 2, 255), MICROS + 3, 255);
+    let late = with(with(late, MICROS + 4, 255), MICROS + 5, 255);
+    let late = with(with(late, MICROS + 6, 255), MICROS + 7, 255);
+    show_time(late);
+    let frame = b"\x07\0\0\0\0\0\0\0\x00\0\0\0\x00";
+    called(b"tick of 0 on core 0", late, frame);
+    let frame = b"\x07\0\0\0\0\0\0\0\x00\0\0\0\x01";
+    let image = called(b"tick of 1 on core 0", late, frame);
+    show_time(image);
+    called(b"microseconds", image, b"\x0f");
+    let frame = b"\x0a\0\0\0\0\0\0\0\x00\0\0\0\x02";
+    let image = called(b"plan with 2 on core 0", late, frame);
+    show_time(image);
+}
+
 // The queries, which leave the image as it was; the longest answer has a buffer of just its length.
 pub(crate) fn queries(image: [u8; IMAGE]) {
     let frame = b"\x0b\0\0\0\0\0\0\0\x03\0\0\0\0\0\0\0\x01";

@@ -13,6 +13,7 @@ mod refusals;
 mod show;
 mod states;
 
+use answers::borders_of_time;
 use answers::eleven_calls;
 use answers::largest_sums;
 use answers::one_buffer;
@@ -59,6 +60,7 @@ fn main() {
     let after = eleven_calls(image);
     compared(b"accepted after the eleven calls", after, after_eleven());
     largest_sums(image);
+    borders_of_time(new);
     queries(image);
     one_buffer(image);
     images_read(image, new);
