@@ -12,7 +12,11 @@
  *     tilesorrel_put(frame + 1, 8, 3);
  *     tilesorrel_put(frame + 9, 4, 500);
  *     if (step(image, sizeof image, frame, sizeof frame, answer, sizeof answer) < TILESORREL_REFUSED) {
- *         run(answer[TILESORREL_VALUE_AT]);                    // the slot that core 3 is to run
+ *         if (answer[TILESORREL_VALUE_AT] == TILESORREL_NONE) {
+ *             idle();                                          // nobody is to run on core 3
+ *         } else {
+ *             run(answer[TILESORREL_VALUE_AT]);                // the slot that core 3 is to run
+ *         }
  *     }
  *
  * Calls on one image must come one after another: take a lock around each. A call uses the SSE2 registers and the red

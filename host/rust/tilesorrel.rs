@@ -13,7 +13,10 @@
 //! put(&mut frame[1..9], 3);
 //! put(&mut frame[9..13], 500);
 //! step(&mut image, &frame, &mut answer)?;
-//! let slot = answer[VALUE_AT];                             // the slot that core 3 is to run
+//! match answer[VALUE_AT] {
+//!     NONE => idle(),                                      // nobody is to run on core 3
+//!     slot => run(slot),                                   // the slot that core 3 is to run
+//! }
 //! ```
 //!
 //! Calls on one image must come one after another, as `&mut` demands: keep it in a lock, and take the lock for each. A
