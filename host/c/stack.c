@@ -111,6 +111,7 @@ static uint64_t called(unsigned call)
 static void *all_calls(void *unused)
 {
     unsigned round;
+    new_image(image, sizeof image); /* not measured: here the linker looks memcpy up, which takes stack of its own */
     called(CALLS);
     for (round = 0; round < ROUNDS; round += 1) {
         uint8_t call = (uint8_t)drawn(CALLS);
