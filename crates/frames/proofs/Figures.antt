@@ -1,6 +1,6 @@
 -- Document 01's numbers, under its headings and in its order, each as a literal beside the definition that has it. The code is proved equal to the
 -- definitions, so a number that is wrong in both alike would be proved too; here it is refused. Where a number stands inside a definition, an
--- example on either side of it is computed. K1 to K11 are in scheduler's KCases, lines of text in Example and Refused; 4,294,967,295 is in no
+-- example on either side of it is computed. K1 to K11 are in scheduler's KCases, document 01's five lines in Example; 4,294,967,295 is in no
 -- definition, since a sum that passes it is above every slice.
 -- Assumes nothing.
 use mathlib.Core.Path.{_≡_, refl}
@@ -50,6 +50,7 @@ use Rattle.frames.specs.Bytes.{bigEndianFrom, bigEndian, bytesOf, writte
 use Rattle.frames.specs.Frame.{argumentWidths, frameCall}
 use Rattle.frames.specs.Hex.{isDigit, toHex}
 use Rattle.frames.specs.Host.{hostNumber, refusalReturned, answerRoom, wrongLength}
+use Rattle.frames.specs.Lines.{newline, noFrame}
 use Rattle.frames.specs.Image.{recordLength, queueLength, queuesPlace, queuePlace, holdersPlace, microsPlace, imageLength, recordIn, recordsIn, stateAt}
 
 -- ---- examples
@@ -182,6 +183,9 @@ pub record Figures : Type 0 where
   -- "bad digit": the bytes beside 0 to 9 and a to f, and A and F
   pub bad-digits : map isDigit (47 ∷ 48 ∷ 57 ∷ 58 ∷ 65 ∷ 70 ∷ 96 ∷ 97 ∷ 102 ∷ 103 ∷ []) ≡
       false ∷ true ∷ true ∷ false ∷ false ∷ false ∷ false ∷ true ∷ true ∷ false ∷ []
+  -- "closed by a newline"; a line that is no frame: "A blank line is refusal 9"
+  pub line-end : newline ≡ 10
+  pub line-refused : noFrame ≡ 9 ∷ 255 ∷ 255 ∷ []
   -- "The first byte is the call; slots and cores take 8 bytes, elapsed 4." The lengths of whole frames from 00 to 10; then each frame, with arguments
   -- that need all of their bytes.
   pub frame-lengths : map (λ (widths : List ℕ). 1 + total widths) argumentWidths ≡
@@ -309,6 +313,8 @@ figures = record {
   micros = refl;
   digits = refl;
   bad-digits = refl;
+  line-end = refl;
+  line-refused = refl;
   frame-lengths = refl;
   frame-00 = refl;
   frame-01 = refl;

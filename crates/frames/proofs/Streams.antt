@@ -18,7 +18,7 @@ use Rattle.frames.specs.declared.decode.CallOption.{CallOption}
 use Rattle.frames.specs.declared.stream.Fed.{Fed}
 use Rattle.frames.specs.declared.stream.Stream.{Stream}
 use Rattle.frames.specs.Hex.{toHex}
-use Rattle.frames.specs.Lines.{newline, lineCall, said, saidTo, lineText, some, linesFrom, lines, answerTo, stateAfter, answersTo, stateAfterAll}
+use Rattle.frames.specs.Lines.{newline, lineCall, said, saidTo, lineText, some, linesFrom, lines, answerTo, stateAfter, answersTo}
 use Rattle.frames.specs.Stream.{longestLine, heldOf, Reached, waits, answering, pastByte, ended, fed, heldIn, Begins, reachedBy, Feeds}
 use Rattle.frames.specs.TextClaim.{Feeding, NextOf, Feedings, textOf, Finished, Answered}
 use Rattle.frames.proofs.Digits.{length-toHex}
@@ -138,6 +138,11 @@ module _ (last : Bool) where
       (λ room s held block r b e behind wide so. omega arith)
 
 -- ---- the lines that are answered
+
+-- the state that lines leave
+unfoldable stateAfterAll : State → List (List ℕ) → State
+stateAfterAll s [] = s
+stateAfterAll s (line ∷ rest) = stateAfterAll (stateAfter line s) rest
 
 answersTo-append : (s : State) (ps qs : List (List ℕ)) → answersTo s (ps ++ qs) ≡ answersTo s ps ++ answersTo (stateAfterAll s ps) qs
 unfolding answersTo stateAfterAll

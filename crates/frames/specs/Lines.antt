@@ -75,8 +75,3 @@ stateAfter line s = saidTo line s .state
 unfoldable pub answersTo : State → List (List ℕ) → List ℕ
 answersTo s [] = []
 answersTo s (line ∷ rest) = answerTo line s ++ answersTo (stateAfter line s) rest
-
--- the state that they leave
-unfoldable pub stateAfterAll : State → List (List ℕ) → State
-stateAfterAll s [] = s
-stateAfterAll s (line ∷ rest) = stateAfterAll (stateAfter line s) rest
