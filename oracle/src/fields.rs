@@ -110,12 +110,15 @@ pub fn difference(value: &[Field], expected: &[u8], found: &[u8]) -> Option<Diff
     None
 }
 
+/// What is written for a digit that is left aside. No answer has it, so that it can be taken for any digit.
+pub const ANY: char = '.';
+
 /// Our answer where the Rust's is this one, with two dots for each byte that is left aside: what it is, the Rust cannot
-/// say. No answer has a dot, so that one can be taken for any digit.
+/// say.
 pub fn dotted(value: &[Field], rust: &str) -> String {
     let text = |(field, digits): (Field, Option<&[u8]>)| match digits {
         Some(digits) => String::from_utf8_lossy(digits).into_owned(),
-        None => "..".repeat(field.width),
+        None => ANY.to_string().repeat(2 * field.width),
     };
     laid_out(value, rust.as_bytes()).into_iter().map(text).collect()
 }

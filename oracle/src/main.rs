@@ -37,7 +37,7 @@ const USAGE: &str = "usage:
   oracle answer                    answers the frames of standard input, as calls does
   oracle compare [OPTION VALUE]... compares calls and step with the Rust: --calls PROGRAM, --lists, --first, --seed, --jobs NUMBER
   oracle show LIST SEED            prints a random list: each frame with the Rust's answer
-  oracle store FOLDER FILE         writes the named lists of a folder and random ones, with their answers";
+  oracle store FOLDER CRATES       writes what the gate runs replay on: the named lists of a folder and random ones";
 
 /// How the program ends: all is well, an answer differs, it could not be done, or the frames left the domain.
 const WELL: u8 = 0;
@@ -52,7 +52,7 @@ fn main() -> ExitCode {
         ["answer"] => answer().map_err(|error| error.to_string()),
         ["compare", options @ ..] => compare(options),
         ["show", list, seed] => show(list, seed),
-        ["store", folder, file] => store::store(Path::new(folder), Path::new(file)).map(|()| WELL),
+        ["store", folder, crates] => store::store(Path::new(folder), Path::new(crates)).map(|()| WELL),
         _ => Err(USAGE.into()),
     };
     ExitCode::from(ended.unwrap_or_else(|wrong| {
