@@ -52,7 +52,7 @@ pub fn list(seed: u64, number: u64, form: &Form) -> List {
     let most = aim.dice.below(form.longest - form.shortest + 1);
     let calls = form.shortest + aim.dice.below(most + 1);
 
-    let mut drawing = Drawing { rust: Driver::new(), lines: Vec::new() };
+    let mut drawing = Drawing::new();
     drawing.make_tasks(&mut aim);
     let stopped = (0..calls).try_for_each(|_| drawing.draw(&mut aim, form.spoils)).is_err();
     let sights = Sights::of(&drawing.rust);
@@ -69,14 +69,19 @@ pub fn list(seed: u64, number: u64, form: &Form) -> List {
     List { mood: mood.name, lines: drawing.lines, stopped, sights, images, dice: aim.dice }
 }
 
-struct Drawing {
+/// Lines so far, and the Rust's state behind them.
+pub struct Drawing {
     rust: Driver,
-    lines: Vec<Line>,
+    pub lines: Vec<Line>,
 }
 
 impl Drawing {
+    pub fn new() -> Drawing {
+        Drawing { rust: Driver::new(), lines: Vec::new() }
+    }
+
     /// The tasks that the mood begins with. Most are enqueued, and some may use a few cores only.
-    fn make_tasks(&mut self, aim: &mut Aim) {
+    pub fn make_tasks(&mut self, aim: &mut Aim) {
         for _ in 0..aim.mood.tasks {
             let create = aim.create();
             self.make(create);
@@ -92,9 +97,20 @@ impl Drawing {
     }
 
     /// One more line; none where it would leave the domain.
-    fn draw(&mut self, aim: &mut Aim, spoils: bool) -> Result<(), Outside> {
-        let (text, call) = aim.line(&self.rust, spoils);
-        assert_eq!(call, Call::read(&text), "what was drawn is what is read");
+    pub fn draw(&mut self, aim: &mut Aim, spoils: bool) -> Result<(), Outside> {
+        let (text, drawn) = aim.line(&self.rust, spoils);
+        let call = Call::read(&text);
+        assert_eq!(drawn, call, "what was drawn is what is read");
+        self.answer(text, call)
+    }
+
+    /// A line that is given; none where it would leave the domain.
+    pub fn add(&mut self, text: Vec<u8>) -> Result<(), Outside> {
+        let call = Call::read(&text);
+        self.answer(text, call)
+    }
+
+    fn answer(&mut self, text: Vec<u8>, call: Option<Call>) -> Result<(), Outside> {
         let answer = match &call {
             Some(call) => self.rust.answer(call)?,
             None => Answer::refused(NO_FRAME),
@@ -104,7 +120,7 @@ impl Drawing {
     }
 
     /// Everything that queries show: the records, the cores' holders, the microseconds, and the slots' holders.
-    fn picture(&mut self) {
+    pub fn picture(&mut self) {
         (0..MAX_TASKS as u64).for_each(|slot| self.make(Call::new(frames::TASK, &[slot])));
         (0..MAX_CPUS as u64).for_each(|core| self.make(Call::new(frames::CURRENT_TASK_ON_CPU, &[core])));
         self.make(Call::new(frames::SYSTEM_TICKS_US, &[]));
@@ -113,7 +129,7 @@ impl Drawing {
 
     /// Lets every waiting task onto core 0 and has core 0 pick until nobody waits: no query shows a queue's order, and
     /// these picks do. What they show are the queues as they were.
-    fn empty_the_queues(&mut self) -> Queues {
+    pub fn empty_the_queues(&mut self) -> Queues {
         let waits = |rust: &Driver, slot| rust.task(slot).is_some_and(|task| task.state == ThreadState::Ready);
         let waiting: Vec<usize> = (0..MAX_TASKS).filter(|&slot| waits(&self.rust, slot)).collect();
         waiting.iter().for_each(|&slot| self.make(Call::new(frames::AFFINITY, &[slot as u64, 0])));
@@ -126,7 +142,7 @@ impl Drawing {
     }
 
     /// A call that charges nobody, so that it is inside the domain.
-    fn make(&mut self, call: Call) {
+    pub fn make(&mut self, call: Call) {
         let answer = self.rust.answer(&call).expect("no tick or plan");
         self.lines.push(Line { text: call.line().into_bytes(), call: Some(call), answer });
     }

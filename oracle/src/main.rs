@@ -8,7 +8,7 @@
 //!   host                          lists of calls through `step`, each compared
 //!   dice, moods, aim, spoil, draw random lists
 //!   compare, coverage             the comparison, and what it reached
-//!   named, store                  lists that are kept with their answers
+//!   named, long, store            lists that are kept with their answers
 
 mod aim;
 mod answers;
@@ -21,6 +21,7 @@ mod fields;
 mod frames;
 mod host;
 mod image;
+mod long;
 mod moods;
 mod named;
 mod spoil;
@@ -37,7 +38,7 @@ const USAGE: &str = "usage:
   oracle answer                    answers the frames of standard input, as calls does
   oracle compare [OPTION VALUE]... compares calls and step with the Rust: --calls PROGRAM, --lists, --first, --seed, --jobs NUMBER
   oracle show LIST SEED            prints a random list: each frame with the Rust's answer
-  oracle store FOLDER CRATES       writes what the gate runs replay on: the named lists of a folder and random ones";
+  oracle store FOLDER CRATES       writes what the gate runs replay and calls on: the named lists of a folder, random ones, a long one";
 
 /// How the program ends: all is well, an answer differs, it could not be done, or the frames left the domain.
 const WELL: u8 = 0;

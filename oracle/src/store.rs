@@ -1,11 +1,12 @@
-//! What the gate runs `replay` on without the Rust, and what it must print.
+//! What the gate runs `replay` and `calls` on without the Rust, and what they must print.
 //!
-//! The named lists and some random ones with their answers. A line `= NAME` begins a list, from new; behind it
+//! For `replay` the named lists and some random ones with their answers. A line `= NAME` begins a list, from new; behind it
 //! every frame takes a line, and its answer the next. Bytes of an answer that are left aside are two dots each: a stored dot
-//! stands for any digit.
+//! stands for any digit. For `calls` one long list.
 
 use crate::draw::{self, Form};
-use crate::fields::{dotted, value_of};
+use crate::fields::{dotted, value_of, ANY};
+use crate::long;
 use crate::named::{self, Answered};
 use std::fs;
 use std::path::{Path, PathBuf};
@@ -18,21 +19,32 @@ const SEED: u64 = 1;
 /// What begins a list's name, so that no frame may begin with it.
 const NAME: char = '=';
 
+/// The named list that the one for `calls` begins with: document 01's five lines.
+const OPENING: &str = "document-example";
+
 /// A list for `replay`.
 struct Stored {
     name: String,
     lines: Vec<Answered>,
 }
 
-/// Writes stdin and stdout of `replay` to its folder among the crates, once both are known.
+/// Writes stdin and stdout of `replay` and `calls` to their folders among the crates, once all of it is known.
 pub fn store(named_lists: &Path, crates: &Path) -> Result<(), String> {
     let mut lists = named(named_lists)?;
+    let opening =
+        lists.iter().find(|list| list.name == OPENING).ok_or_else(|| format!("there is no list {OPENING}"))?;
+    let long = long::list(opening.lines.iter().map(|line| line.frame.as_str()))?;
     lists.extend((0..RANDOM).map(random));
     let replayed = lists.iter().map(stored).collect::<Result<String, _>>()?;
     let printed = printed(&lists);
+    let answers = answers(&long)?;
 
+    let input = long::text(&long);
     write(crates, "replay/stdin", replayed.as_bytes())?;
     write(crates, "replay/stdout", printed.as_bytes())?;
+    write(crates, "calls/stdin", &input)?;
+    write(crates, "calls/stdout", answers.as_bytes())?;
+    println!("calls: {} lines, {} bytes", long.len(), input.len());
     println!("replay: {}", printed.lines().last().unwrap_or_default());
     Ok(())
 }
@@ -90,6 +102,21 @@ fn printed(lists: &[Stored]) -> String {
     text + &format!("{} lists, {calls} calls, {differences} differences\n", lists.len())
 }
 
+/// What `calls` must print.
+fn answers(lines: &[draw::Line]) -> Result<String, String> {
+    lines.iter().map(|line| whole(our_answer(line)).map(|answer| answer + "\n")).collect()
+}
+
+/// An answer with no byte left aside.
+fn whole(answer: String) -> Result<String, String> {
+    if answer.contains(ANY) {
+        return Err(format!(
+            "{answer} has bytes left aside, and what calls prints is compared whole: fill them in from document 02"
+        ));
+    }
+    Ok(answer)
+}
+
 /// Our answer to a line, as far as the Rust says it.
 fn our_answer(line: &draw::Line) -> String {
     dotted(value_of(line.call.as_ref()), &line.answer.line())
@@ -143,5 +170,11 @@ mod tests {
         assert_eq!(stored(&lists[1]).unwrap(), "= wrong\n\n09ffff\n0\n09ff\n\n09ffff\n");
         assert_eq!(printed(&lists), "list 2, call 3: stored 09ff\nfound 09ffff\n2 lists, 4 calls, 1 differences\n");
         assert_eq!(printed(&lists[..1]), "1 lists, 1 calls, 0 differences\n");
+    }
+
+    #[test]
+    fn an_answer_for_calls_has_no_bytes_left_aside() {
+        assert!(whole("00ffff..".into()).unwrap_err().contains("document 02"));
+        assert_eq!(whole("00ffff00".into()).unwrap(), "00ffff00");
     }
 }
