@@ -7,11 +7,11 @@ use native.Mathlib.Nat.{zero-add, add-assoc}
 use native.Mathlib.Omega.{arith}
 use borrow.Author.Tests.{ltb-true, ltb-false, lt-ltb, le-ltb}
 use lib.Dec.{eqb, ltb, leb}
-use lib.ListN.{length, take, drop, length-take}
-use Rattle.records.proofs.Cases.{split, by-if}
+use lib.ListN.{length, drop, length-take}
+use Rattle.records.proofs.Cases.{split}
 use Rattle.scheduler.specs.State.{State}
 use Rattle.frames.specs.Lines.{newline, lineOf, some, answerTo, stateAfter}
-use Rattle.frames.specs.Stream.{longestLine, heldOf, Reached, waits, answering, pastByte, ended, fed}
+use Rattle.frames.specs.Stream.{longestLine, heldOf, Reached, waits, pastByte, ended, fed}
 use Rattle.frames.proofs.Cuts.{test}
 use Rattle.frames.proofs.Streams.{held-more, held-short}
 
@@ -50,11 +50,10 @@ some-on : (held : List ℕ) (b : ℕ) (line : List ℕ) → some (heldOf (held +
 some-on [] b line = refl
 some-on (x ∷ held) b line = refl
 
-ltb-suc : (m n : ℕ) → ltb m n ≡ ltb (suc m) (suc n)
-ltb-suc m n =
-    split (λ (t : Bool). t ≡ ltb (suc m) (suc n)) (ltb m n)
-    (λ e. sym (lt-ltb (suc m) (suc n) (omega (arith, ltb-true m n e))))
-    (λ e. sym (le-ltb (suc m) (suc n) (omega (arith, ltb-false m n e))))
+-- tests that say the same
+pub ltb-alike : (a b c d : ℕ) → (a < b → c < d) → (b ≤ a → d ≤ c) → ltb a b ≡ ltb c d
+ltb-alike a b c d less most =
+    split (λ (t : Bool). t ≡ ltb c d) (ltb a b) (λ e. sym (lt-ltb c d (less (ltb-true a b e)))) (λ e. sym (le-ltb c d (most (ltb-false a b e))))
 
 module _ (last : Bool) (room : ℕ) (s : State) where
   -- by whether a line is at its end, what is held of it, how many bytes it has, and what comes behind it, at which place
@@ -92,13 +91,18 @@ module _ (last : Bool) (room : ℕ) (s : State) where
   at-end : (held : List ℕ) → fed last room s held [] ≡ byParts (last && some held) held 0 0 []
   unfolding fed
   at-end held =
-      split (λ (due : Bool). cond due (ended room s held (waits false (stateAfter held s) [])) (waits false s held) ≡ byParts due held 0 0 []) (last && some held)
-      (λ _. ap (λ (due : Bool). cond (leb (length (answerTo held s)) room) (onward (answerTo held s) 0 (cond due (later due) (waits false (stateAfter held s) []))) (waits true s held))
+      split (λ (due : Bool). cond due (ended room s held none) (waits false s held) ≡ byParts due held 0 0 []) (last && some held)
+      (λ _.
+      ap (λ (due : Bool). cond (leb (length (answerTo held s)) room) (onward (answerTo held s) 0 (cond due one-more none)) (waits true s held))
       (sym (and-false last)))
       (λ _. refl)
     where
-      later : Bool → Reached
-      later due = ended (room - length (answerTo held s)) (stateAfter held s) [] (waits false (stateAfter [] (stateAfter held s)) [])
+      none : Reached
+      none = waits false (stateAfter held s) []
+
+      -- what an empty line would make, which is none
+      one-more : Reached
+      one-more = ended (room - length (answerTo held s)) (stateAfter held s) [] (waits false (stateAfter [] (stateAfter held s)) [])
 
   at-newline : (held block : List ℕ) →
       ended room s held (pastByte (fed last (room - length (answerTo held s)) (stateAfter held s) [] block)) ≡ byParts true held 0 1 block
@@ -113,7 +117,8 @@ module _ (last : Bool) (room : ℕ) (s : State) where
       sum = omega arith
 
   pub fed-line : (block held : List ℕ) → length held ≤ longestLine + 1 →
-      fed last room s held block ≡ byParts (isEnded last held block) (heldOf (held ++ lineOf block)) (length (lineOf block)) (past block) (drop (past block) block)
+      fed last room s held block
+      ≡ byParts (isEnded last held block) (heldOf (held ++ lineOf block)) (length (lineOf block)) (past block) (drop (past block) block)
   unfolding fed lineOf
   fed-line [] held short =
       at-end held ∙ (λ i. byParts (last && some (sym (append-nil held) i)) (sym (held-none held short) i) 0 0 [])
@@ -128,9 +133,11 @@ module _ (last : Bool) (room : ℕ) (s : State) where
       (λ e.
       let held′ : List ℕ = heldOf (held ++ (b ∷ [])) in
       let line : List ℕ = lineOf block in
+      let inside : ltb (length line) (length block) ≡ ltb (suc (length line)) (suc (length block)) =
+      ltb-alike (length line) (length block) (suc (length line)) (suc (length block)) (λ less. omega arith) (λ most. omega arith) in
       let one-more : suc (min (length line + 1) (length block)) ≡ min (suc (length line) + 1) (suc (length block)) = omega arith in
       rw e
       (ap pastByte (fed-line block held′ (omega (arith, length-take (longestLine + 1) (held ++ (b ∷ [])))))
       ∙ past-parts (isEnded last held′ block) (heldOf (held′ ++ line)) (length line) (past block) (drop (past block) block)
       ∙ (λ i.
-      byParts (ltb-suc (length line) (length block) i || (last && some-on held b line i)) (held-on held b line i) (suc (length line)) (one-more i) (drop (one-more i) (b ∷ block)))))
+      byParts (inside i || (last && some-on held b line i)) (held-on held b line i) (suc (length line)) (one-more i) (drop (one-more i) (b ∷ block)))))

@@ -6,8 +6,8 @@ use mathlib.Core.List.{List, [], _∷_, _++_, append-assoc, append-nil, flatten}
 use mathlib.Core.Path.{_≡_, refl, sym, ap, _∙_, subst}
 use Prim.Native.Nat.{ℕ, zero, suc, _+_, _-_, _*_, _≤_, _<_}
 use native.Mathlib.Omega.{arith}
-use borrow.Author.Tests.{ltb-true, lt-ltb, leb-true, leb-false, lt-leb, le-leb}
-use lib.Dec.{eqb, ltb, leb}
+use borrow.Author.Tests.{leb-true, leb-false}
+use lib.Dec.{eqb, leb}
 use lib.ListN.{length, take, drop, length-append, length-take}
 use lib.Seq.{take-all, drop-length, drop-append-le}
 use Rattle.records.proofs.Cases.{split, by-if}
@@ -20,7 +20,7 @@ use Rattle.frames.specs.declared.stream.Stream.{Stream}
 use Rattle.frames.specs.Hex.{toHex}
 use Rattle.frames.specs.Lines.{newline, lineCall, said, saidTo, lineText, some, linesFrom, lines, answerTo, stateAfter, answersTo}
 use Rattle.frames.specs.Stream.{longestLine, heldOf, Reached, waits, answering, pastByte, ended, fed, heldIn, Begins, reachedBy, Feeds}
-use Rattle.frames.specs.TextClaim.{Feeding, NextOf, Feedings, textOf, Finished, Answered}
+use Rattle.frames.specs.TextClaim.{Feeding, NextOf, Feedings, Finished, Answered}
 use Rattle.frames.proofs.Digits.{length-toHex}
 use Rattle.frames.proofs.Refused.{long-line}
 use Rattle.frames.proofs.Sizes.{said-fits}
@@ -99,7 +99,9 @@ module _ (last : Bool) (P : ℕ → State → List ℕ → List ℕ → Reached 
       (stays room s held)
   along (b ∷ block) room s held =
       by-if (P room s held (b ∷ block)) (eqb b newline)
-      (λ e. by-end (P room s held (b ∷ block)) room s held _ (λ fits. answers room s held block _ b e fits (along block _ _ _)) (is-full room s held (b ∷ block)))
+      (λ e.
+      by-end (P room s held (b ∷ block)) room s held _ (λ fits. answers room s held block _ b e fits (along block _ _ _))
+      (is-full room s held (b ∷ block)))
       (λ e. goes-on room s held block _ b e (along block _ _ _))
 
 module _ (last : Bool) where
@@ -166,8 +168,8 @@ unfolding answersTo stateAfterAll
 onto-none line is = record { answered = []; line = line; held-is = is; lines-are = refl; text-is = refl; state-is = refl }
 
 -- a line that is begun is the first
-onto-first : {s next : State} {line held text held′ rest : List ℕ} {all : List (List ℕ)} → held ≡ heldOf line → Onto (stateAfter held s) all text next held′ rest →
-    Onto s (line ∷ all) (answerTo held s ++ text) next held′ rest
+onto-first : {s next : State} {line held text held′ rest : List ℕ} {all : List (List ℕ)} → held ≡ heldOf line →
+    Onto (stateAfter held s) all text next held′ rest → Onto s (line ∷ all) (answerTo held s ++ text) next held′ rest
 unfolding answersTo stateAfterAll
 onto-first {s} {next} {line} {held} {text} is o =
     let state : stateAfter held s ≡ stateAfter line s = ap (λ (l : List ℕ). stateAfter l s) is ∙ state-held line s in
@@ -285,8 +287,8 @@ module _ (stream : Stream) (text line : List ℕ) (is : heldIn stream ≡ heldOf
 
 -- one, and then others
 joined : {s next : State} {all : List (List ℕ)} {held rest : List ℕ} (f : Feeding) (fs : List Feeding)
-    (o : Onto s all (take (f .got .written) (f .after)) next held rest) (l : Answered next (linesFrom (o .line) rest) fs) → (Finished (f ∷ fs) → l .later ≡ []) →
-    Answered s all (f ∷ fs)
+    (o : Onto s all (take (f .got .written) (f .after)) next held rest) (l : Answered next (linesFrom (o .line) rest) fs) →
+    (Finished (f ∷ fs) → l .later ≡ []) → Answered s all (f ∷ fs)
 unfolding flatten
 joined {s} f fs o l finished = record {
   answered = o .answered ++ l .answered;

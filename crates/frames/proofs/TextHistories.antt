@@ -54,9 +54,12 @@ text-demand3 {s} start asked = record {
 
 -- ---- a text fed to a stream
 
-pub stream-demand3 : {s : QoSScheduler} (start : Start s) {stream : Stream} → Begins s stream → (text : List ℕ) (fs : List Feeding) → Feedings stream text fs →
-    StreamClaim (startState start) s text fs
+pub stream-demand3 : {s : QoSScheduler} (start : Start s) {stream : Stream} → Begins s stream → (text : List ℕ) (fs : List Feeding) →
+    Feedings stream text fs → StreamClaim (startState start) s text fs
 stream-demand3 {s} start begins text fs feedings =
     let so-far : Answered (startState start) (lines text) fs =
     subst (λ (t : State). Answered t (lines text) fs) (start-as start .state-is) (feedings-answered begins text fs feedings) in
-    record { so-far = so-far; claim = subst (TextClaim (startState start) s (so-far .answered)) (sym (so-far .text-is)) (text-demand3 start (so-far .answered)) }
+    record {
+      so-far = so-far;
+      claim = subst (TextClaim (startState start) s (so-far .answered)) (sym (so-far .text-is)) (text-demand3 start (so-far .answered));
+    }

@@ -1,5 +1,5 @@
--- Document 01's frames and answers as lists of bytes, text of lines, the image, and the host entry. All of it computes; what a function promises is an equation to
--- one of these definitions, or a record with named fields of such equations.
+-- Document 01's frames and answers as lists of bytes, text of lines, the image, and the host entry. All of it computes; what a function promises is an
+-- equation to one of these definitions, or a record with named fields of such equations.
 --
 --   Bytes           big-endian numbers                  Hex      two digits a byte
 --   Frame           which call a frame stands for       Answer   the bytes of an answer

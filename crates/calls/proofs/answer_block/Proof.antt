@@ -25,8 +25,9 @@ used-in block used n within low = omega (arith, length-take (length block - used
 
 add-used : tie.Need-add-used Inv-loop μ-loop
 add-used c =
-    let at = c .before .before .before .before .before .before .before in
-    let within = used-in (at .before .before .before .args .block .now) (at .loop .used) _ (feeds-in (c .before .before .before .before .feed .ensures)) (at .loop .inv .1) in
+    let fed = c .before .before .before .before in
+    let at = fed .before .before .before in
+    let within = used-in (at .before .before .before .args .block .now) (at .loop .used) _ (feeds-in (fed .feed .ensures)) (at .loop .inv .1) in
     search needs
 
 slice-aggregate-write-all : tie.Need-slice-aggregate-write-all Inv-loop μ-loop

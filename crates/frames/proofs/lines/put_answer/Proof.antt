@@ -1,9 +1,9 @@
 -- `put_answer` meets its contract: the answer's bytes are made first, and stored as a line if that has room. Assumes nothing.
-use mathlib.Core.Path.{refl, ap, _∙_}
+use mathlib.Core.Path.{refl}
 use native.Mathlib.Omega.{arith}
 use borrow.Author.Needs.{needs}
 use Rattle.frames.specs.Answer.{answerBytes}
-use Rattle.frames.proofs.Progress.{line-put, line-not-put, put-small, put-length, put-stored}
+use Rattle.frames.proofs.LinePuts.{line-put, line-not-put, put-small, put-length, put-stored}
 use Rattle.frames.proofs.lines.put_answer.Statement.{statement}
 use Rattle.frames.proofs.lines.put_answer.Tie as tie
 
@@ -28,7 +28,8 @@ put-line-requires c κs = let same = put-length _ (c .before .before .before .be
 returns-2 : tie.Need-returns-2
 returns-2 c =
     let put = c .before .before .before .before .before .before .before .write-answer .ensures in
-    line-put (answerBytes _) _ _ (omega (arith, put .length-is)) (c .before .before .before .before .before .if1 .left) (put-stored _ put refl _ _ (c .before .before .put-line .ensures))
+    line-put (answerBytes _) _ _ (omega (arith, put .length-is))
+    (c .before .before .before .before .before .if1 .left) (put-stored _ put refl _ _ (c .before .before .put-line .ensures))
 
 pub put-answer-spec : {M : Type 1} → statement M
 put-answer-spec =

@@ -1,6 +1,6 @@
 -- `put_line` meets its contract: the digits, then the newline behind them. Assumes nothing.
 use borrow.Author.Needs.{needs}
-use Rattle.frames.proofs.Progress.{line-stored}
+use Rattle.frames.proofs.LinePuts.{line-stored}
 use Rattle.frames.proofs.lines.put_line.Statement.{statement}
 use Rattle.frames.proofs.lines.put_line.Tie as tie
 

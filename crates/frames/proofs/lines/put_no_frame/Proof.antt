@@ -2,7 +2,7 @@
 use mathlib.Core.Path.{refl, _∙_}
 use borrow.Author.Needs.{needs}
 use Rattle.frames.specs.Lines.{noFrame}
-use Rattle.frames.proofs.Progress.{line-put, line-not-put, no-frame-stored}
+use Rattle.frames.proofs.LinePuts.{line-put, line-not-put, no-frame-stored}
 use Rattle.frames.proofs.lines.put_no_frame.Statement.{statement}
 use Rattle.frames.proofs.lines.put_no_frame.Tie as tie
 

@@ -15,8 +15,9 @@ use Rattle.frames.proofs.stream.call_of.Tie as tie
 
 returns : tie.Need-returns
 returns c =
-    let none = ap (λ (n : ℕ). lineCall (heldOf (take n (c .before .before .before .args .held .now) ++ c .before .before .before .args .line .now))) (c .before .if1 .taken) in
-    c .read-line .ensures ∙ sym (call-held (c .before .before .before .args .line .now)) ∙ sym none
+    let a = c .before .before .before .args in
+    let none = ap (λ (n : ℕ). lineCall (heldOf (take n (a .held .now) ++ a .line .now))) (c .before .if1 .taken) in
+    c .read-line .ensures ∙ sym (call-held (a .line .now)) ∙ sym none
 
 array-share-prefix-whole : tie.Need-array-share-prefix-whole
 array-share-prefix-whole c = omega (arith, c .hold .ensures .within, c .hold .ensures .places)

@@ -4,7 +4,7 @@ use native.Mathlib.Omega.{arith}
 use borrow.Author.Needs.{needs}
 use lib.ListN.{length-take}
 use lib.Seq.{length-take-le}
-use Rattle.frames.proofs.Progress.{holds}
+use Rattle.frames.proofs.Held.{holds}
 use Rattle.frames.proofs.stream.hold.Statement.{statement}
 use Rattle.frames.proofs.stream.hold.Tie as tie
 

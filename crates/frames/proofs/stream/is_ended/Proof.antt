@@ -1,6 +1,6 @@
 -- `is_ended` meets its contract. Assumes nothing.
 use borrow.Author.Needs.{needs}
-use Rattle.frames.proofs.Progress.{ended-held, ended-more}
+use Rattle.frames.proofs.Held.{ended-held, ended-more}
 use Rattle.frames.proofs.stream.is_ended.Statement.{statement}
 use Rattle.frames.proofs.stream.is_ended.Tie as tie
 

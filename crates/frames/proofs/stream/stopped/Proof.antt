@@ -1,6 +1,6 @@
 -- `stopped` meets its contract: the stream with more of its line held. Assumes nothing.
 use borrow.Author.Needs.{needs}
-use Rattle.frames.proofs.Progress.{stops}
+use Rattle.frames.proofs.Held.{stops}
 use Rattle.frames.proofs.stream.stopped.Statement.{statement}
 use Rattle.frames.proofs.stream.stopped.Tie as tie
 

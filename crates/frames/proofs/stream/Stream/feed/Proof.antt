@@ -1,15 +1,15 @@
 -- `feed` meets its contract. The loop's invariant: what is done, and what the rest of the block makes in the room that is left, is what is asked for.
 -- The measure is what is left of the block, and what is held. Assumes nothing.
-use mathlib.Core.Path.{refl, sym, _∙_}
+use mathlib.Core.Path.{sym, _∙_}
 use Prim.Native.Nat.{_+_, _-_}
-use native.Mathlib.Omega.{arith}
 use borrow.Author.Needs.{needs}
 use borrow.Author.Tests.{not-true, not-false}
 use lib.ListN.{length}
 use Rattle.frames.specs.Answer.{answerBytes}
 use Rattle.frames.specs.Lines.{noFrame}
 use Rattle.frames.proofs.Cuts.{line-within}
-use Rattle.frames.proofs.Progress.{Going, begin, put-in, less, stops-open, stops-full, turn}
+use Rattle.frames.proofs.LinePuts.{put-in}
+use Rattle.frames.proofs.Progress.{Going, begin, less, stops-open, stops-full, turn}
 use Rattle.frames.proofs.Tellings.{makes-refusal, makes-reply}
 use Rattle.frames.proofs.stream.Stream.feed.Statement.{statement}
 use Rattle.frames.proofs.stream.Stream.feed.Tie as tie
@@ -35,7 +35,8 @@ returns : tie.Need-returns Inv-loop μ-loop
 returns c =
     let asked = c .before .before in
     let found = asked .before in
-    stops-open (found .before .loop .inv) (found .next-line .ensures) (sym (asked .is-ended .ensures) ∙ not-true _ (c .before .if1 .taken)) (c .stopped .ensures)
+    stops-open (found .before .loop .inv) (found .next-line .ensures) (sym (asked .is-ended .ensures) ∙ not-true _ (c .before .if1 .taken))
+    (c .stopped .ensures)
 
 -- ---- a line that is no frame
 
@@ -91,7 +92,8 @@ loop-again c =
 same-length-3 : tie.Need-same-length-3 Inv-loop μ-loop
 same-length-3 c =
     let put = c .before .before .before .before in
-    let now = c .before .before .before .before .before .before .before .before .before .before .before .before .before .before .before .before .loop .inv .length-is in
+    let at = put .before .before .before .before .before .before .before .before .before .before .before .before in
+    let now = at .loop .inv .length-is in
     let stored = put .put-answer .ensures .buffer-is in
     search needs
 

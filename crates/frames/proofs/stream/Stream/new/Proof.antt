@@ -1,6 +1,6 @@
 -- `new` meets its contract: nothing is held. Assumes nothing.
 use mathlib.Core.Path.{refl}
-use Rattle.frames.proofs.Progress.{begins}
+use Rattle.frames.proofs.Held.{begins}
 use Rattle.frames.proofs.stream.Stream.new.Statement.{statement}
 use Rattle.frames.proofs.stream.Stream.new.Tie as tie
 
