@@ -1,11 +1,14 @@
 // Answers frames: a line of standard input is a call, a line of standard output its answer. It starts with a new scheduler
 // and goes on to the end of the input, whatever the lines hold; answers are written before more input is waited for.
 //
-// It reads, feeds what it read to a stream, and writes what comes back: what a feeding makes is proved (`Stream::feed` of
-// frames), what a read brings and a write does is not.
+// It reads, feeds what it read to a stream, and writes what comes back. What a feeding makes is proved (`Stream::feed` of
+// frames), and that all of a block is fed, in order; what a read brings and what a write does is not.
+ghost use mathlib.Core.Bool.{true};
+ghost use mathlib.Core.Path.{_≡_};
 ghost use Prim.Native.Nat.{_≤_};
 ghost use lib.ListN.{length};
-ghost use Rattle.frames.specs.Stream.{ValidStream};
+ghost use Rattle.calls.specs.Program.{FeedsBlock};
+ghost use Rattle.frames.specs.Stream.{longestAnswer, ValidStream};
 use frames::Stream;
 use libc::STDERR_FILENO;
 use libc::STDIN_FILENO;
@@ -41,11 +44,13 @@ fn main() {
     }
 }
 
-// Feeds a block, in as many goes as its answers need, and writes what each gives.
+// Feeds a block, in as many goes as its answers need, and writes what each gives. Only a read that found nothing is the end of
+// the input, so the last block is empty.
 fn answer_block(stream: Stream, block: &[u8], last: bool, out: &mut [u8]) -> Progress
     requires { ⌜ ValidStream stream ⌝ }
-    requires { ⌜ 103 ≤ length (now out) ⌝ }
-    ensures { λ r. ⌜ ValidStream (r .stream) ⌝ }
+    requires { ⌜ (last ≡ true → length (now block) ≡ 0) ⌝ }
+    requires { ⌜ longestAnswer ≤ length (now out) ⌝ }
+    ensures { λ r. ⌜ FeedsBlock last stream (now (block .entry)) r ⌝ }
 {
     let mut stream = stream;
     let mut used = 0;

@@ -71,5 +71,6 @@ pub writes : List ℕ
 writes = first-answer ++ (second-answer ++ (third-answer ++ (fourth-answer ++ fifth-answer)))
 
 pub example : answersTo newState (lines given) ≡ writes
-unfolding given writes answersTo answerTo stateAfter saidTo lineCall lineText linesFrom isHex fromHex toHex frameCall bigEndianFrom bytesOf answerBytes paper firstPlace pushed entryAt takenAt choice ruleP create enqueue block ticked tick
+unfolding given writes answersTo answerTo stateAfter saidTo lineCall lineText linesFrom isHex fromHex toHex frameCall bigEndianFrom bytesOf
+    answerBytes paper firstPlace pushed entryAt takenAt choice ruleP create enqueue block ticked tick
 example = refl

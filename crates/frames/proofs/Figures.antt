@@ -1,7 +1,7 @@
 -- Document 01's numbers, under its headings and in its order, each as a literal beside the definition that has it. The code is proved equal to the
 -- definitions, so a number that is wrong in both alike would be proved too; here it is refused. Where a number stands inside a definition, an
--- example on either side of it is computed. K1 to K11 are in scheduler's KCases, document 01's five lines in Example; 4,294,967,295 is in no
--- definition, since a sum that passes it is above every slice.
+-- example on either side of it is computed. K1 to K11 are in scheduler's KCases, document 01's five lines in Example, and an image for each condition
+-- of acceptance in the program image_run; 4,294,967,295 is in no definition, since a sum that passes it is above every slice.
 -- Assumes nothing.
 use mathlib.Core.Path.{_≡_, refl}
 use mathlib.Core.Bool.{Bool, true, false}
@@ -32,7 +32,7 @@ use Rattle.scheduler.specs.declared.answer.Value.the-variants as value
 use Rattle.scheduler.specs.declared.call.Call.{Call}
 use Rattle.scheduler.specs.declared.call.Call.the-variants.{Create, Affinity, Terminate, Block, Wake, Enqueue, Schedule, Tick, Yield, Handoff, Plan}
 use Rattle.scheduler.specs.declared.call.Call.the-variants.{CanRunOnCore, TaskIndexForTid, Task, CurrentTaskOnCpu, SystemTicksUs, Holder}
-use Rattle.scheduler.specs.Accepted.{everyBelow}
+use Rattle.scheduler.specs.Accepted.{everyBelow, recordFits}
 use Rattle.scheduler.specs.Outcome.{answered, refusal}
 use Rattle.scheduler.specs.Paper.{recordNumbers, flagNumber, paper}
 use Rattle.scheduler.specs.Picking.{choice, ruleP, schedule}
@@ -48,9 +48,9 @@ use Rattle.frames.specs.AcceptedImage.{codesFit, placeFits, bandFits}
 use Rattle.frames.specs.Answer.{recordWidths, answerBytes}
 use Rattle.frames.specs.Bytes.{bigEndianFrom, bigEndian, bytesOf, written, total}
 use Rattle.frames.specs.Frame.{argumentWidths, frameCall}
-use Rattle.frames.specs.Hex.{isDigit, toHex}
+use Rattle.frames.specs.Hex.{isDigit, isHex, fromHex, toHex}
 use Rattle.frames.specs.Host.{hostNumber, refusalReturned, answerRoom, wrongLength}
-use Rattle.frames.specs.Lines.{newline, noFrame}
+use Rattle.frames.specs.Lines.{newline, lineCall, noFrame, linesFrom, lines}
 use Rattle.frames.specs.Image.{recordLength, queueLength, queuesPlace, queuePlace, holdersPlace, microsPlace, imageLength, recordIn, recordsIn, stateAt}
 
 -- ---- examples
@@ -84,6 +84,21 @@ sample = record {
 abbrev codes : ℕ → ℕ → ℕ → Bool
 codes b s u = codesFit (written recordWidths (0 ∷ b ∷ s ∷ 0 ∷ 0 ∷ 0 ∷ 0 ∷ 0 ∷ 0 ∷ u ∷ []))
 
+-- whether a record of band 1 with this mask, budget and consumed time is as it should be
+abbrev fits : ℕ → ℕ → ℕ → Bool
+fits mask budget consumed = recordFits (record {
+  tid = tidOf 10;
+  qos = RealTimeIO;
+  state = Ready;
+  «context_handle» = 11;
+  cr3 = 12;
+  rsp0 = 13;
+  «cpu_affinity» = mask;
+  «slice_budget_us» = budget;
+  «consumed_slice_us» = consumed;
+  «in_use» = true;
+})
+
 -- whether queue 0 may have this length, in an image of zeros, where slot 0 is Ready
 abbrev queueOf : ℕ → Bool
 queueOf n = bandFits (replicate 3008 0 ++ n ∷ replicate 266 0) UserInteractive
@@ -97,8 +112,8 @@ abbrev last : State
 last = run (Create (tidOf 9) UserInteractive 0 0 0 ∷ Enqueue (slotOf 63) ∷ Schedule 63 ∷ Enqueue (slotOf 0) ∷ []) (tasks 63)
 
 -- the numbers of the answer to a call
-abbrev answerTo : State → Call → List ℕ
-answerTo s call = paper (step call s .answer)
+abbrev numbersOf : State → Call → List ℕ
+numbersOf s call = paper (step call s .answer)
 
 -- the microseconds after a call on the new state, and those 1 after n
 abbrev microsAfter : Call → ℕ
@@ -154,6 +169,9 @@ pub record Figures : Type 0 where
   pub queue-places : map queuePlace (UserInteractive ∷ RealTimeIO ∷ Background ∷ []) ≡ 3008 ∷ (3008 + 65) ∷ (3008 + 65 + 65) ∷ []
   -- "band, state and in-use codes are as above": the highest of each, and one more
   pub codes-accepted : codes 2 3 1 ∷ codes 3 3 1 ∷ codes 2 4 1 ∷ codes 2 3 2 ∷ [] ≡ true ∷ false ∷ false ∷ false ∷ []
+  -- "no mask is 0"; "every budget is 0 or its slice; every consumed is below its slice"
+  pub records-accepted : fits 1 5000 4999 ∷ fits 1 0 4999 ∷ fits 0 5000 4999 ∷ fits 1 2000 4999 ∷ fits 1 5000 5000 ∷ [] ≡
+      true ∷ true ∷ false ∷ false ∷ false ∷ []
   -- "lengths are at most 64"
   pub lengths-accepted : map queueOf (64 ∷ 65 ∷ []) ≡ true ∷ false ∷ []
   -- ---- "Picking"
@@ -183,8 +201,13 @@ pub record Figures : Type 0 where
   -- "bad digit": the bytes beside 0 to 9 and a to f, and A and F
   pub bad-digits : map isDigit (47 ∷ 48 ∷ 57 ∷ 58 ∷ 65 ∷ 70 ∷ 96 ∷ 97 ∷ 102 ∷ 103 ∷ []) ≡
       false ∷ true ∷ true ∷ false ∷ false ∷ false ∷ false ∷ true ∷ true ∷ false ∷ []
-  -- "closed by a newline"; a line that is no frame: "A blank line is refusal 9"
+  -- "closed by a newline or the end of input; nothing after the last newline is no line": the lines of nothing, of a newline, of a digit, of a digit and
+  -- a newline, and of a digit and two
   pub line-end : newline ≡ 10
+  pub line-numbers : map (λ (text : List ℕ). length (lines text)) ([] ∷ (10 ∷ []) ∷ (48 ∷ []) ∷ (48 ∷ 10 ∷ []) ∷ (48 ∷ 10 ∷ 10 ∷ []) ∷ []) ≡
+      0 ∷ 1 ∷ 1 ∷ 1 ∷ 2 ∷ []
+  -- "A blank line is refusal 9"
+  pub blank-line : lineCall [] ≡ None
   pub line-refused : noFrame ≡ 9 ∷ 255 ∷ 255 ∷ []
   -- "The first byte is the call; slots and cores take 8 bytes, elapsed 4." The lengths of whole frames from 00 to 10; then each frame, with arguments
   -- that need all of their bytes.
@@ -244,8 +267,8 @@ pub record Figures : Type 0 where
   -- "8 bytes for 0f"
   pub answer-micros : bytesFor (value.Micros (2 ^ 56 + 8)) ≡ 0 ∷ 255 ∷ 255 ∷ 1 ∷ 0 ∷ 0 ∷ 0 ∷ 0 ∷ 0 ∷ 0 ∷ 8 ∷ []
   -- which of these each call has: 00 on 63 tasks and on 64; then 01 to 10 for slots and cores that there are
-  pub create-slots : map (λ (n : ℕ). answerTo (tasks n) (make UserInteractive)) (63 ∷ 64 ∷ []) ≡ (0 ∷ 255 ∷ 255 ∷ 63 ∷ []) ∷ (1 ∷ 255 ∷ 255 ∷ []) ∷ []
-  pub answers-63 : map (answerTo last) (
+  pub create-slots : map (λ (n : ℕ). numbersOf (tasks n) (make UserInteractive)) (63 ∷ 64 ∷ []) ≡ (0 ∷ 255 ∷ 255 ∷ 63 ∷ []) ∷ (1 ∷ 255 ∷ 255 ∷ []) ∷ []
+  pub answers-63 : map (numbersOf last) (
       Affinity (slotOf 63) 1 ∷ Terminate (slotOf 63) ∷ Block (slotOf 63) ∷ Wake (slotOf 62) ∷ Enqueue (slotOf 63) ∷ Schedule 63 ∷ Tick 63 5 ∷ Yield 63 ∷
       Handoff 63 ∷ Plan 63 5 ∷ CanRunOnCore (slotOf 63) 63 ∷ TaskIndexForTid (tidOf 9) ∷ Task (slotOf 63) ∷ CurrentTaskOnCpu 63 ∷ SystemTicksUs ∷
       Holder (slotOf 63) ∷ []) ≡
@@ -256,15 +279,22 @@ pub record Figures : Type 0 where
       (0 ∷ 255 ∷ 255 ∷ 1 ∷ 9 ∷ 0 ∷ 1 ∷ 0 ∷ 0 ∷ 0 ∷ 18446744073709551615 ∷ 2000 ∷ 0 ∷ 1 ∷ []) ∷
       (0 ∷ 255 ∷ 255 ∷ 0 ∷ []) ∷ (0 ∷ 255 ∷ 255 ∷ 63 ∷ []) ∷ []
   -- "Wake: if some core holds it, Running", so that a handoff gives no plan
-  pub woken-63 : answerTo (run (Block (slotOf 63) ∷ Wake (slotOf 63) ∷ []) last) (Handoff 63) ≡ 0 ∷ 255 ∷ 255 ∷ 0 ∷ []
+  pub woken-63 : numbersOf (run (Block (slotOf 63) ∷ Wake (slotOf 63) ∷ []) last) (Handoff 63) ≡ 0 ∷ 255 ∷ 255 ∷ 0 ∷ []
   -- 3 for a slot or a core "64 or above"; none, or no plan, "for c of 64 and above" in 06, 07 and 0a; "Slots of 64 and above give 00 in 0b and 0d, ff
   -- in 10; such a core gives 00 in 0e"; a tid that no slot has
-  pub answers-64 : map (answerTo last) (
+  pub answers-64 : map (numbersOf last) (
       Affinity (slotOf 64) 1 ∷ Terminate (slotOf 64) ∷ Block (slotOf 64) ∷ Wake (slotOf 64) ∷ Enqueue (slotOf 64) ∷ Schedule 64 ∷ Tick 64 5 ∷ Yield 64 ∷
       Handoff 64 ∷ Plan 64 5 ∷ CanRunOnCore (slotOf 64) 63 ∷ TaskIndexForTid (tidOf 8) ∷ Task (slotOf 64) ∷ CurrentTaskOnCpu 64 ∷ Holder (slotOf 64) ∷ []) ≡
       (3 ∷ 255 ∷ 255 ∷ []) ∷ (3 ∷ 255 ∷ 255 ∷ []) ∷ (3 ∷ 255 ∷ 255 ∷ []) ∷ (3 ∷ 255 ∷ 255 ∷ []) ∷ (3 ∷ 255 ∷ 255 ∷ []) ∷
       (0 ∷ 255 ∷ 255 ∷ 255 ∷ []) ∷ (0 ∷ 255 ∷ 255 ∷ 255 ∷ []) ∷ (3 ∷ 255 ∷ 255 ∷ []) ∷ (3 ∷ 255 ∷ 255 ∷ []) ∷ (0 ∷ 255 ∷ 255 ∷ 0 ∷ []) ∷
       (0 ∷ 255 ∷ 255 ∷ 0 ∷ []) ∷ (0 ∷ 255 ∷ 255 ∷ 255 ∷ []) ∷ (0 ∷ 255 ∷ 255 ∷ 0 ∷ []) ∷ (0 ∷ 255 ∷ 255 ∷ 0 ∷ []) ∷ (0 ∷ 255 ∷ 255 ∷ 255 ∷ []) ∷ []
+  -- the table: 3 where it is "not in use"; 5 "Blocked", 6 "not Blocked", 4 "Ready", 3 "no holder"
+  pub refused-free : map (numbersOf (tasks 63)) (Block (slotOf 63) ∷ Wake (slotOf 63) ∷ Enqueue (slotOf 63) ∷ []) ≡
+      (3 ∷ 255 ∷ 255 ∷ []) ∷ (3 ∷ 255 ∷ 255 ∷ []) ∷ (3 ∷ 255 ∷ 255 ∷ []) ∷ []
+  pub refused-states : map (numbersOf last) (Block (slotOf 62) ∷ Wake (slotOf 63) ∷ Enqueue (slotOf 0) ∷ Handoff 0 ∷ []) ≡
+      (5 ∷ 255 ∷ 255 ∷ []) ∷ (6 ∷ 255 ∷ 255 ∷ []) ∷ (4 ∷ 255 ∷ 255 ∷ []) ∷ (3 ∷ 255 ∷ 255 ∷ []) ∷ []
+  -- and of a holder that is Ready: yield 3, "its holder not Running"; handoff 6, "holder Ready"
+  pub refused-holder : map (numbersOf (run (Enqueue (slotOf 63) ∷ []) last)) (Yield 63 ∷ Handoff 63 ∷ []) ≡ (3 ∷ 255 ∷ 255 ∷ []) ∷ (6 ∷ 255 ∷ 255 ∷ []) ∷ []
   -- "It gets the answer's length, or 256 plus refusal 7, 8 or 9"; 7: "image not 3,275 bytes, or answer buffer under 51"
   pub host-numbers : map hostNumber (WrongLength ∷ NotAccepted ∷ NoFrame ∷ []) ≡ 7 ∷ 8 ∷ 9 ∷ []
   pub host-returned : map refusalReturned (WrongLength ∷ NotAccepted ∷ NoFrame ∷ []) ≡ (256 + 7) ∷ (256 + 8) ∷ (256 + 9) ∷ []
@@ -278,7 +308,7 @@ pub record Figures : Type 0 where
   pub refusals : map errorCode (TableFull ∷ QueueFull ∷ NoSuchTask ∷ AlreadyReady ∷ AlreadyBlocked ∷ NotBlocked ∷ []) ≡ 1 ∷ 2 ∷ 3 ∷ 4 ∷ 5 ∷ 6 ∷ []
 
 pub figures : Figures
-unfolding bigEndianFrom bytesOf frameCall toHex answerBytes paper recordIn recordsIn stateAt placeFits bandFits everyBelow
+unfolding bigEndianFrom bytesOf frameCall isHex fromHex toHex lineCall linesFrom answerBytes paper recordIn recordsIn stateAt placeFits bandFits everyBelow
     firstPlace pushed without entryAt takenAt choice ruleP run create affinity terminate block wake enqueue schedule
     ticked tick yield handoff planned canRunOnCore taskIndexForTid taskAt currentTaskOnCpu coreOf
 figures = record {
@@ -302,6 +332,7 @@ figures = record {
   queue-length = refl;
   queue-places = refl;
   codes-accepted = refl;
+  records-accepted = refl;
   lengths-accepted = refl;
   band-order = refl;
   picked-record = refl;
@@ -314,6 +345,8 @@ figures = record {
   digits = refl;
   bad-digits = refl;
   line-end = refl;
+  line-numbers = refl;
+  blank-line = refl;
   line-refused = refl;
   frame-lengths = refl;
   frame-00 = refl;
@@ -353,6 +386,9 @@ figures = record {
   answers-63 = refl;
   woken-63 = refl;
   answers-64 = refl;
+  refused-free = refl;
+  refused-states = refl;
+  refused-holder = refl;
   host-numbers = refl;
   host-returned = refl;
   answer-room = refl;

@@ -13,8 +13,8 @@
 --   Images          a state's image: written and read back
 --   AcceptedImages  the test of acceptance; accepted images and accepted states
 --   Typed           a scheduler's numbers fit the fields of an image, by their types
---   Reached         every state that calls reach from new, or from an accepted image, has an image
---   AnswersFit      no number of an answer is too large for its field
+--   Reached         every state that calls whose numbers fit reach from new, or from an accepted image, has an image
+--   AnswersFit      in an accepted state whose numbers fit, no number of an answer is too large for its field
 --   Demand3         demand 3, whole: from new and from an accepted image
 --   Follows         requests as the calls of a history
 --   TextHistories   demand 3 for lines of text

@@ -1,6 +1,6 @@
--- Document 01, "Task record, queues, holders": the states that calls reach from new, or from an accepted image, have an image. Acceptance bounds all
--- numbers of a state but those that calls give and the microseconds; for these the rules are followed once. Then: the numbers of an accepted image
--- fit, and those of a call that is read from a frame. Assumes nothing.
+-- Document 01, "Task record, queues, holders": the states that calls whose numbers fit reach from new, or from an accepted image, have an image.
+-- Acceptance bounds all numbers of a state but those that calls give and the microseconds; for these the rules are followed once. Then: the numbers
+-- of an accepted image fit, and those of a call that is read from a frame. Assumes nothing.
 use mathlib.Core.Path.{_≡_, refl, sym, subst}
 use mathlib.Core.Bool.{not}
 use mathlib.Core.List.{List, [], _∷_}

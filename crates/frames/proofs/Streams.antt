@@ -9,7 +9,7 @@ use native.Mathlib.Omega.{arith}
 use borrow.Author.Tests.{leb-true, leb-false}
 use lib.Dec.{eqb, leb}
 use lib.ListN.{length, take, drop, length-append, length-take}
-use lib.Seq.{take-all, drop-length, drop-append-le}
+use lib.Seq.{take-all, drop-length, drop-drop, drop-append-le}
 use Rattle.records.proofs.Cases.{split, by-if}
 use Rattle.scheduler.specs.declared.scheduler.QoSScheduler.{QoSScheduler}
 use Rattle.scheduler.specs.Scheduler.{abs}
@@ -19,8 +19,8 @@ use Rattle.frames.specs.declared.stream.Fed.{Fed}
 use Rattle.frames.specs.declared.stream.Stream.{Stream}
 use Rattle.frames.specs.Hex.{toHex}
 use Rattle.frames.specs.Lines.{newline, lineCall, said, saidTo, lineText, some, linesFrom, lines, answerTo, stateAfter, answersTo}
-use Rattle.frames.specs.Stream.{longestLine, heldOf, Reached, waits, answering, pastByte, ended, fed, heldIn, Begins, reachedBy, Feeds}
-use Rattle.frames.specs.TextClaim.{Feeding, NextOf, Feedings, Finished, Answered}
+use Rattle.frames.specs.Stream.{longestLine, longestAnswer, heldOf, Reached, waits, answering, pastByte, ended, fed, heldIn, Begins, reachedBy, Feeds}
+use Rattle.frames.specs.TextClaim.{Feeding, NextOf, Feedings, streamAfter, usedBy, Finished, Answered}
 use Rattle.frames.proofs.Digits.{length-toHex}
 use Rattle.frames.proofs.Refused.{long-line}
 use Rattle.frames.proofs.Sizes.{said-fits}
@@ -70,7 +70,7 @@ unfolding lineText
 length-lineText bytes = omega (arith, length-append (toHex bytes) (newline ∷ []), length-toHex bytes)
 
 -- an answer's line: two digits a byte, and the newline
-pub answer-in : (line : List ℕ) (s : State) → length (answerTo line s) ≤ 103
+pub answer-in : (line : List ℕ) (s : State) → length (answerTo line s) ≤ longestAnswer
 unfolding answerTo
 answer-in line s = omega (arith, length-lineText (saidTo line s .bytes), said-fits line s)
 
@@ -130,10 +130,10 @@ module _ (last : Bool) where
       (λ room s held block r b e behind so. ap suc (behind so))
 
   -- and something is used even then, if the buffer has room for any one answer
-  pub some-used : (block : List ℕ) (room : ℕ) (s : State) (held : List ℕ) → 103 ≤ room → fed last room s held block .full ≡ true →
+  pub some-used : (block : List ℕ) (room : ℕ) (s : State) (held : List ℕ) → longestAnswer ≤ room → fed last room s held block .full ≡ true →
       0 < fed last room s held block .used
   some-used =
-      along last (λ room s held block r. 103 ≤ room → r .full ≡ true → 0 < r .used) (λ room s held _ wide e. absurd (false≢true e))
+      along last (λ room s held block r. longestAnswer ≤ room → r .full ≡ true → 0 < r .used) (λ room s held _ wide e. absurd (false≢true e))
       (λ room s held due fits wide e. absurd (false≢true e))
       (λ room s held block small wide e. absurd (omega (arith, answer-in held s)))
       (λ room s held block r b e fits behind wide so. omega arith)
@@ -236,7 +236,7 @@ module _ {last : Bool} {stream : Stream} {block before after : List ℕ} {r : Fe
   pub feeds-in : r .used ≤ length block
   feeds-in = omega (arith, feeds .used-is, used-in last block (length before) (abs (stream .state)) (heldIn stream))
 
-  pub feeds-on : 103 ≤ length before → r .«is_full» ≡ true → 0 < r .used
+  pub feeds-on : longestAnswer ≤ length before → r .«is_full» ≡ true → 0 < r .used
   feeds-on wide full =
       omega (arith, feeds .used-is, some-used last block (length before) (abs (stream .state)) (heldIn stream) wide (sym (feeds .full-is) ∙ full))
 
@@ -317,6 +317,33 @@ so-far (f ∷ g ∷ rest) stream text line is (feeds, (next, later)) =
     let o = feeds-onto stream text line is f feeds next in
     let l = so-far (g ∷ rest) (f .got .stream) (drop (f .got .used) text) (o .line) (o .held-is) later in
     joined f (g ∷ rest) o l (l .finished)
+
+-- ---- feedings append
+
+pub feedings-append : (fs gs : List Feeding) (stream : Stream) (text : List ℕ) → Feedings stream text fs →
+    Feedings (streamAfter stream fs) (drop (usedBy fs) text) gs → Feedings stream text (fs ++ gs)
+unfolding Feedings streamAfter usedBy
+feedings-append [] gs stream text none later = later
+feedings-append (f ∷ fs) gs stream text (feeds, (next, rest)) later =
+    let place = sym (drop-drop (usedBy fs) (f .got .used) text) in
+    (feeds, (next, feedings-append fs gs (f .got .stream) (drop (f .got .used) text) rest (subst (λ (l : List ℕ). Feedings (streamAfter (f .got .stream) fs) l gs) place later)))
+
+pub streamAfter-append : (fs gs : List Feeding) (stream : Stream) → streamAfter stream (fs ++ gs) ≡ streamAfter (streamAfter stream fs) gs
+unfolding streamAfter
+streamAfter-append [] gs stream = refl
+streamAfter-append (f ∷ fs) gs stream = streamAfter-append fs gs (f .got .stream)
+
+pub usedBy-append : (fs gs : List Feeding) → usedBy (fs ++ gs) ≡ usedBy fs + usedBy gs
+unfolding usedBy
+usedBy-append [] gs = omega arith
+usedBy-append (f ∷ fs) gs = omega (arith, usedBy-append fs gs)
+
+pub finished-append : (fs gs : List Feeding) → Finished gs → Finished (fs ++ gs)
+unfolding Finished
+finished-append [] gs fin = fin
+finished-append (f ∷ []) [] fin = absurd fin
+finished-append (f ∷ []) (g ∷ gs) fin = fin
+finished-append (f ∷ f′ ∷ fs) gs fin = finished-append (f′ ∷ fs) gs fin
 
 -- what a list of feedings writes is the answers to the lines of the text
 pub feedings-answered : {s : QoSScheduler} {stream : Stream} → Begins s stream → (text : List ℕ) (fs : List Feeding) → Feedings stream text fs →

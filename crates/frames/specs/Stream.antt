@@ -21,6 +21,10 @@ use Rattle.frames.specs.Lines.{newline, some, lineText, answerTo, stateA
 abbrev pub longestLine : ℕ
 longestLine = 60
 
+-- no answer as a line of text has more bytes, its newline included
+abbrev pub longestAnswer : ℕ
+longestAnswer = 103
+
 -- What is held of a line: of one that is longer than any frame only so much that this shows, since it is refused whatever follows.
 abbrev pub heldOf : List ℕ → List ℕ
 heldOf line = take (longestLine + 1) line
@@ -67,7 +71,7 @@ fed last room s held (b ∷ block) =
 unfoldable pub heldIn : Stream → List ℕ
 heldIn stream = take (stream .len) (stream .held)
 
--- a stream that came from `new` or from an earlier feeding
+-- what is presumed of a stream: `new` and every feeding ensure it
 pub record ValidStream (stream : Stream) : Type 0 where
   pub valid : Valid (stream .state)
   pub places : length (stream .held) ≡ longestLine + 1

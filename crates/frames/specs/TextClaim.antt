@@ -3,7 +3,7 @@
 use mathlib.Core.Path.{_≡_}
 use mathlib.Core.Bool.{Bool, true, false}
 use mathlib.Core.List.{List, [], _∷_, _++_, map, flatten}
-use Prim.Native.Nat.{ℕ}
+use Prim.Native.Nat.{ℕ, _+_}
 use lib.ListN.{take, drop}
 use Rattle.scheduler.specs.declared.scheduler.QoSScheduler.{QoSScheduler}
 use Rattle.scheduler.specs.State.{State}
@@ -35,6 +35,15 @@ unfoldable pub Feedings : Stream → List ℕ → List Feeding → Type 0
 Feedings stream text [] = Unit
 Feedings stream text (f ∷ rest) =
     Feeds (f .last) stream (f .block) (f .before) (f .after) (f .got) × (NextOf text f × Feedings (f .got .stream) (drop (f .got .used) text) rest)
+
+-- the stream that they hand back, and how much of the text they use
+unfoldable pub streamAfter : Stream → List Feeding → Stream
+streamAfter stream [] = stream
+streamAfter stream (f ∷ rest) = streamAfter (f .got .stream) rest
+
+unfoldable pub usedBy : List Feeding → ℕ
+usedBy [] = 0
+usedBy (f ∷ rest) = f .got .used + usedBy rest
 
 -- what they wrote, one behind the other
 abbrev pub textOf : List Feeding → List ℕ

@@ -36,7 +36,8 @@ pub struct Fed {
     pub used: usize,
     // how many bytes of answers were written
     pub written: usize,
-    // whether a line's answer has no room in what is left of the buffer: feed again what is not used
+    // whether a line's answer has no room in what is left of the buffer: feed again what is not used, even if that is nothing,
+    // and as the last if it was the last
     pub is_full: bool,
 }
 
