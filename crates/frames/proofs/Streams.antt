@@ -326,7 +326,8 @@ unfolding Feedings streamAfter usedBy
 feedings-append [] gs stream text none later = later
 feedings-append (f ∷ fs) gs stream text (feeds, (next, rest)) later =
     let place = sym (drop-drop (usedBy fs) (f .got .used) text) in
-    (feeds, (next, feedings-append fs gs (f .got .stream) (drop (f .got .used) text) rest (subst (λ (l : List ℕ). Feedings (streamAfter (f .got .stream) fs) l gs) place later)))
+    let behind = subst (λ (l : List ℕ). Feedings (streamAfter (f .got .stream) fs) l gs) place later in
+    (feeds, (next, feedings-append fs gs (f .got .stream) (drop (f .got .used) text) rest behind))
 
 pub streamAfter-append : (fs gs : List Feeding) (stream : Stream) → streamAfter stream (fs ++ gs) ≡ streamAfter (streamAfter stream fs) gs
 unfolding streamAfter

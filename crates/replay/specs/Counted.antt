@@ -1,11 +1,14 @@
--- What is counted: lists, calls compared, and differences.
-use mathlib.Core.Bool.{Bool, false, cond}
+-- What a line does: what it adds to the counts of lists, calls compared and differences, and what becomes of the stream.
+use mathlib.Core.Bool.{Bool, true, false, cond}
 use mathlib.Core.List.{List, [], _∷_}
 use mathlib.Core.Path.{_≡_}
-use Prim.Native.Nat.{ℕ, _+_, _%_, _^_, _≤_}
+use Prim.Native.Nat.{ℕ, _+_, _%_, _^_, _≤_, _<_}
 use lib.Dec.{eqb, ltb}
 use lib.ListN.{length, take}
-use Rattle.frames.specs.Stream.{ValidStream}
+use Rattle.scheduler.specs.Scheduler.{abs}
+use Rattle.scheduler.specs.State.{newState}
+use Rattle.frames.specs.declared.stream.Fed.{Fed}
+use Rattle.frames.specs.Stream.{heldIn, ValidStream, Feeds}
 use Rattle.replay.specs.declared.Replay.{Replay}
 use Rattle.replay.specs.Stored.{asStored}
 
@@ -42,11 +45,32 @@ withLine waiting answer line k =
 -- the answer that waits is counted, and waits no longer
 pub record Compares (before : Replay) (stored answer : List ℕ) (r : Replay) : Type 0 where
   pub valid : ValidStream (r .stream)
+  pub stream-is : r .stream ≡ before .stream
   pub none-waits : r .waiting ≡ 0
   pub counts-are : countsIn r ≡ withAnswer (asStored (take (before .waiting) answer) stored) (countsIn before)
 
--- a line is counted
+-- a list begins with a new scheduler
+pub record BeginsList (r : Replay) : Type 0 where
+  pub state-is : abs (r .stream .state) ≡ newState
+  pub held-is : heldIn (r .stream) ≡ []
+  pub none-waits : r .waiting ≡ 0
+
+-- a frame is fed to the stream, and its answer waits
+pub record FeedsFrame (before : Replay) (line answer after : List ℕ) (r : Replay) : Type 0 where
+  pub fed : Fed
+  pub feeds : Feeds false (before .stream) line answer after fed
+  pub stream-is : r .stream ≡ fed .stream
+  pub waits : r .waiting ≡ fed .written
+
+-- what becomes of the stream and of what waits, by the kind of line
+pub data Goes (before : Replay) (line answer after : List ℕ) (r : Replay) : Type 0 where
+  anAnswer : 0 < before .waiting → r .stream ≡ before .stream → r .waiting ≡ 0 → Goes before line answer after r
+  aName : before .waiting ≡ 0 → isName line ≡ true → BeginsList r → Goes before line answer after r
+  aFrame : before .waiting ≡ 0 → isName line ≡ false → FeedsFrame before line answer after r → Goes before line answer after r
+
+-- a line is counted, and does what its kind does
 pub record Replays (before : Replay) (line answer after : List ℕ) (r : Replay) : Type 0 where
   pub valid : ValidStream (r .stream)
   pub within : r .waiting ≤ length after
   pub counts-are : countsIn r ≡ withLine (before .waiting) answer line (countsIn before)
+  pub goes : Goes before line answer after r

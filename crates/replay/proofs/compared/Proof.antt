@@ -23,6 +23,7 @@ returns c =
     let differs = sym (asked .is-as-stored .ensures) ∙ not-true _ (c .before .before .before .if1 .taken) in
     record {
       valid = search needs;
+      stream-is = refl;
       none-waits = refl;
       counts-are = compares before false differs (called .wrapping-add-u64 .ensures) (c .before .before .wrapping-add-u642 .ensures);
     }
@@ -32,7 +33,12 @@ returns-2 c =
     let called = c .before .before .before in
     let before = countsIn (called .before .before .before .before .args .replay) in
     let alike = sym (c .before .is-as-stored .ensures) ∙ not-false _ (c .if1 .left) in
-    record { valid = search needs; none-waits = refl; counts-are = compares before true alike (called .wrapping-add-u64 .ensures) refl }
+    record {
+      valid = search needs;
+      stream-is = refl;
+      none-waits = refl;
+      counts-are = compares before true alike (called .wrapping-add-u64 .ensures) refl;
+    }
 
 pub compared-spec : {M : Type 1} → statement M
 compared-spec =
