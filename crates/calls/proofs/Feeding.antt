@@ -9,14 +9,14 @@ use lib.ListN.{length, take, drop, length-drop}
 use lib.Seq.{take-all, drop-at, drop-append-le}
 use Rattle.scheduler.specs.declared.scheduler.QoSScheduler.{QoSScheduler}
 use Rattle.scheduler.specs.Scheduler.{abs}
-use Rattle.frames.specs.declared.stream.Fed as frames
+use Rattle.frames.specs.declared.stream.Fed.{Fed}
 use Rattle.frames.specs.declared.stream.Stream.{Stream}
 use Rattle.frames.specs.Lines.{lines, answersTo}
 use Rattle.frames.specs.Stream.{Begins, ValidStream, Feeds}
 use Rattle.frames.specs.TextClaim.{Feeding, NextOf, Feedings, streamAfter, usedBy, textOf, Finished}
 use Rattle.frames.proofs.Streams.{feeds-in, feeds-all, feedings-append, streamAfter-append, usedBy-append, finished-append, feedings-answered}
 use Rattle.calls.specs.declared.Progress.{Progress}
-use Rattle.calls.specs.Program.{FeedsBlock, Fed, FeedsAll, inputOf}
+use Rattle.calls.specs.Program.{FeedsBlock, BlockFed, FeedsAll, inputOf}
 
 -- ---- one block
 
@@ -40,7 +40,7 @@ begin last start block valid = record {
 }
 
 module _ {last : Bool} {start : Stream} {block : List ℕ} {stream : Stream} {used : ℕ} (g : Going last start block stream used) {before after : List ℕ}
-    {r : frames.Fed} (fed : Feeds last stream (take (length block - used) (drop used block)) before after r) where
+    {r : Fed} (fed : Feeds last stream (take (length block - used) (drop used block)) before after r) where
   abbrev f : Feeding
   f = record { block = drop used block; last = last; before = before; after = after; got = r }
 
@@ -106,7 +106,7 @@ all-used-up : {last : Bool} {stream : Stream} {block more : List ℕ} {r : Progr
 all-used-up {block = block} {more} b written = drop-at block more (usedBy (b .feedings)) (sym (b .all-used written))
 
 -- what was fed, one block after the other, is fed in the order of the whole input, and to its end
-pub all-fed : (stream : Stream) (bs : List Fed) (end : Progress) → FeedsAll stream bs end →
+pub all-fed : (stream : Stream) (bs : List BlockFed) (end : Progress) → FeedsAll stream bs end →
     (fs : List Feeding) × (Feedings stream (inputOf bs) fs × Finished fs)
 unfolding FeedsAll flatten
 all-fed stream [] end (b, written) = (b .feedings, (b .in-order [] (λ _. refl), b .finished written refl))
@@ -124,7 +124,7 @@ all-fed stream (b ∷ rest) end (fed, (written, later)) =
     )
 
 -- so what is handed to be written is the answers to the lines of all that was read
-pub input-answered : {s : QoSScheduler} {stream : Stream} → Begins s stream → (bs : List Fed) (end : Progress) → FeedsAll stream bs end →
+pub input-answered : {s : QoSScheduler} {stream : Stream} → Begins s stream → (bs : List BlockFed) (end : Progress) → FeedsAll stream bs end →
     (fs : List Feeding) × (Feedings stream (inputOf bs) fs × (textOf fs ≡ answersTo (abs s) (lines (inputOf bs))))
 input-answered {s} {stream} begins bs end fed =
     let all = all-fed stream bs end fed in

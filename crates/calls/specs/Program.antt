@@ -20,15 +20,15 @@ pub record FeedsBlock (last : Bool) (stream : Stream) (block : List ℕ) (r : Pr
   pub finished : r .«is_written» ≡ true → last ≡ true → Finished feedings
 
 -- a block that was read, and what came of it
-pub record Fed : Type 0 where
+pub record BlockFed : Type 0 where
   pub block : List ℕ
   pub got : Progress
 
 -- one block after the other, each fed to the stream that the one before left, and then the end of the input; all answers could be written
-unfoldable pub FeedsAll : Stream → List Fed → Progress → Type 0
+unfoldable pub FeedsAll : Stream → List BlockFed → Progress → Type 0
 FeedsAll stream [] end = FeedsBlock true stream [] end × (end .«is_written» ≡ true)
 FeedsAll stream (b ∷ rest) end = FeedsBlock false stream (b .block) (b .got) × ((b .got .«is_written» ≡ true) × FeedsAll (b .got .stream) rest end)
 
 -- all that was read
-abbrev pub inputOf : List Fed → List ℕ
-inputOf bs = flatten (map (λ (b : Fed). b .block) bs)
+abbrev pub inputOf : List BlockFed → List ℕ
+inputOf bs = flatten (map (λ (b : BlockFed). b .block) bs)

@@ -1,4 +1,4 @@
-// Text that comes in blocks: a stream is fed one after the other, and gives the answers to the lines of the whole text.
+// Text that comes in blocks: a stream is fed block by block, and gives the answers to the lines of the whole text.
 ghost use mathlib.Core.Bool.{_&&_, _||_};
 ghost use mathlib.Core.List.{_++_};
 ghost use mathlib.Core.Path.{_≡_};
