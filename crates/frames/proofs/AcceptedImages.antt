@@ -15,11 +15,11 @@ use Rattle.records.specs.Task.{emptyRecord}
 use Rattle.records.proofs.Bands.{bandCode-small}
 use Rattle.records.proofs.States.{stateCode-small}
 use Rattle.queue.specs.Rules.{places}
-use Rattle.scheduler.specs.Accepted.{Accepted, Each}
-use Rattle.scheduler.specs.Paper.{recordNumbers}
-use Rattle.scheduler.specs.State.{State, noneByte, task, queue, holder}
-use Rattle.scheduler.proofs.Invariant.{ready-in-table, used-in-table, accepted-invariant}
-use Rattle.scheduler.proofs.Says.{Says, equal, less, at-most, same, same-state, both, either, never, implies, within, all-of, below, each, bands, ready-of, may-hold}
+use Rattle.rules.specs.Accepted.{Accepted, Each}
+use Rattle.rules.specs.Paper.{recordNumbers}
+use Rattle.rules.specs.State.{State, noneByte, task, queue, holder}
+use Rattle.rules.proofs.Invariant.{ready-in-table, used-in-table, accepted-invariant}
+use Rattle.rules.proofs.Says.{Says, equal, less, at-most, same, same-state, both, either, never, implies, within, all-of, below, each, bands, ready-of, may-hold}
 use Rattle.frames.specs.AcceptedImage.{AcceptedImage, slotFits, placeFits, bandFits, coreFits, acceptsImage}
 use Rattle.frames.specs.Answer.{recordWidths, recordBytes}
 use Rattle.frames.specs.Bytes.{AllBytes, bytesOf, numbersAt}

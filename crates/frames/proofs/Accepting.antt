@@ -18,9 +18,9 @@ use Rattle.records.specs.declared.task.TaskControlBlock.{TaskControlBlock}
 use Rattle.records.specs.Band.{IsBandCode}
 use Rattle.records.specs.State.{isState}
 use Rattle.records.proofs.Bands.{bandCode-small}
-use Rattle.scheduler.specs.Accepted.{every, everyBelow, recordFits, readyOf, onceIfReady, standsOnce, mayHold, holderFits}
-use Rattle.scheduler.specs.State.{noneByte, bandOrder, task, queue}
-use Rattle.scheduler.proofs.Says.{Says, less, at-most, both, each, bands}
+use Rattle.rules.specs.Accepted.{every, everyBelow, recordFits, readyOf, onceIfReady, standsOnce, mayHold, holderFits}
+use Rattle.rules.specs.State.{noneByte, bandOrder, task, queue}
+use Rattle.rules.proofs.Says.{Says, less, at-most, both, each, bands}
 use Rattle.frames.specs.Bytes.{part}
 use Rattle.frames.specs.Image.{imageLength, queuePlace, holdersPlace, recordIn, recordAt, queueAt, lengthByte, slotByte, stateAt}
 use Rattle.frames.specs.AcceptedImage.{codesFit, slotFits, placeFits, bandFits, coreFits, acceptsImage}

@@ -22,29 +22,29 @@ use Rattle.records.proofs.Bands.{bandCode-small}
 use Rattle.records.proofs.Cases.{by-if}
 use Rattle.queue.specs.Rules.{full}
 use Rattle.records.specs.Band.{bandCode}
-use Rattle.scheduler.specs.declared.answer.Answer.{Answer}
-use Rattle.scheduler.specs.declared.answer.CoreOption.{CoreOption}
-use Rattle.scheduler.specs.declared.answer.PickOption.{PickOption}
-use Rattle.scheduler.specs.declared.answer.PickOption.the-variants as pick
-use Rattle.scheduler.specs.declared.answer.PlanOption.{PlanOption}
-use Rattle.scheduler.specs.declared.answer.PlanOption.the-variants as plan
-use Rattle.scheduler.specs.declared.answer.Status.{Status}
-use Rattle.scheduler.specs.declared.answer.Status.the-variants.{Done, Refused}
-use Rattle.scheduler.specs.declared.answer.TaskOption.{TaskOption}
-use Rattle.scheduler.specs.declared.answer.Value.{Value}
-use Rattle.scheduler.specs.declared.answer.Value.the-variants as value
-use Rattle.scheduler.specs.declared.call.Call.{Call}
-use Rattle.scheduler.specs.declared.call.Call.the-variants.{Create, Affinity, Terminate, Block, Wake, Enqueue, Schedule, Tick, Yield, Handoff, Plan, CanRunOnCore, TaskIndexForTid, Task, CurrentTaskOnCpu, SystemTicksUs, Holder}
-use Rattle.scheduler.specs.Accepted.{Accepted}
-use Rattle.scheduler.specs.Outcome.{Outcome, Chosen, answered, refusal, goOn}
-use Rattle.scheduler.specs.Paper.{paper, statusNumber, pickNumbers, slotNumber, coreNumber, targetNumbers, valueNumbers}
-use Rattle.scheduler.specs.Picking.{choice, afterPick, ruleP, answerSlot, schedule}
-use Rattle.scheduler.specs.Queries.{canRunOnCore, slotBelow, hasTid, taskIndexForTid, taskAt, recordOf, currentTaskOnCpu, coreOf}
-use Rattle.scheduler.specs.State.{State, firstPlace, bandOrder, noneByte, task, queue, holder, holderOf}
-use Rattle.scheduler.specs.Step.{step}
-use Rattle.scheduler.specs.Ticking.{gain, cleared, sliceOver, requeued, tickHolder, ticked, tick, targetOf, same, planOf, answerPlan, yieldHolder, yield, handoffIn, handoffHolder, handoff, planned}
-use Rattle.scheduler.specs.Waking.{freeSlot, coreHolding, create, affinity, terminate, missing, block, enqueue, isHeld, wake}
-use Rattle.scheduler.proofs.Calls.{call-accepted}
+use Rattle.rules.specs.declared.answer.Answer.{Answer}
+use Rattle.rules.specs.declared.answer.CoreOption.{CoreOption}
+use Rattle.rules.specs.declared.answer.PickOption.{PickOption}
+use Rattle.rules.specs.declared.answer.PickOption.the-variants as pick
+use Rattle.rules.specs.declared.answer.PlanOption.{PlanOption}
+use Rattle.rules.specs.declared.answer.PlanOption.the-variants as plan
+use Rattle.rules.specs.declared.answer.Status.{Status}
+use Rattle.rules.specs.declared.answer.Status.the-variants.{Done, Refused}
+use Rattle.rules.specs.declared.answer.TaskOption.{TaskOption}
+use Rattle.rules.specs.declared.answer.Value.{Value}
+use Rattle.rules.specs.declared.answer.Value.the-variants as value
+use Rattle.rules.specs.declared.call.Call.{Call}
+use Rattle.rules.specs.declared.call.Call.the-variants.{Create, Affinity, Terminate, Block, Wake, Enqueue, Schedule, Tick, Yield, Handoff, Plan, CanRunOnCore, TaskIndexForTid, Task, CurrentTaskOnCpu, SystemTicksUs, Holder}
+use Rattle.rules.specs.Accepted.{Accepted}
+use Rattle.rules.specs.Outcome.{Outcome, Chosen, answered, refusal, goOn}
+use Rattle.rules.specs.Paper.{paper, statusNumber, pickNumbers, slotNumber, coreNumber, targetNumbers, valueNumbers}
+use Rattle.rules.specs.Picking.{choice, afterPick, ruleP, answerSlot, schedule}
+use Rattle.rules.specs.Queries.{canRunOnCore, slotBelow, hasTid, taskIndexForTid, taskAt, recordOf, currentTaskOnCpu, coreOf}
+use Rattle.rules.specs.State.{State, firstPlace, bandOrder, noneByte, task, queue, holder, holderOf}
+use Rattle.rules.specs.Step.{step}
+use Rattle.rules.specs.Ticking.{gain, cleared, sliceOver, requeued, tickHolder, ticked, tick, targetOf, same, planOf, answerPlan, yieldHolder, yield, handoffIn, handoffHolder, handoff, planned}
+use Rattle.rules.specs.Waking.{freeSlot, coreHolding, create, affinity, terminate, missing, block, enqueue, isHeld, wake}
+use Rattle.rules.proofs.Calls.{call-accepted}
 use Rattle.frames.specs.Answer.{valueWidths, valueBytes, answerBytes, pickIn}
 use Rattle.frames.specs.Bytes.{bytesOf, written, numbersAt, Fit}
 use Rattle.frames.specs.Fits.{FitsCall, FitsAnswer}

@@ -9,7 +9,7 @@ use borrow.Author.Tests.{ltb-true, ltb-false, lt-ltb, le-ltb}
 use lib.Dec.{eqb, ltb, leb}
 use lib.ListN.{length, drop, length-take}
 use Rattle.records.proofs.Cases.{split}
-use Rattle.scheduler.specs.State.{State}
+use Rattle.rules.specs.State.{State}
 use Rattle.frames.specs.Lines.{newline, lineOf, some, answerTo, stateAfter}
 use Rattle.frames.specs.Stream.{longestLine, heldOf, Reached, waits, pastByte, ended, fed}
 use Rattle.frames.proofs.Cuts.{test}

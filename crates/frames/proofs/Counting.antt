@@ -15,8 +15,8 @@ use Rattle.records.specs.declared.band.QoSClass.the-variants.{UserInteractive, 
 use Rattle.records.proofs.Cases.{split}
 use Rattle.queue.specs.Rules.{count}
 use Rattle.queue.proofs.Counts.{count-append, count-one, count-other, length-without}
-use Rattle.scheduler.specs.Accepted.{standings, onceIfReady, standsOnce}
-use Rattle.scheduler.specs.State.{State, task, queue}
+use Rattle.rules.specs.Accepted.{standings, onceIfReady, standsOnce}
+use Rattle.rules.specs.State.{State, task, queue}
 use Rattle.frames.specs.Image.{queueAt, stateAt}
 use Rattle.frames.specs.ImageParts.{LengthsFit, AtMost, Counted}
 use Rattle.frames.proofs.Images.{queue-read, getD-zeros}

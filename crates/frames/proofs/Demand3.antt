@@ -5,7 +5,7 @@ use Prim.Native.Nat.{ℕ}
 use Rattle.scheduler.specs.declared.scheduler.QoSScheduler.{QoSScheduler}
 use Rattle.scheduler.specs.History.{MadeEither, Mixed, madeOf, CodeClaim}
 use Rattle.scheduler.specs.Scheduler.{abs, Valid}
-use Rattle.scheduler.specs.State.{State}
+use Rattle.rules.specs.State.{State}
 use Rattle.scheduler.proofs.Histories.{mixed-is, code-demand3, stored}
 use Rattle.frames.specs.declared.read.ImageRead.{ImageRead}
 use Rattle.frames.specs.declared.read.ImageStatus.{ImageStatus}

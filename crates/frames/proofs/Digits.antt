@@ -13,8 +13,8 @@ use lib.Dec.{leb, eqb}
 use lib.ListN.{length, getD, drop, set, length-set, length-drop, drop-of-length-le}
 use lib.Seq.{sets, drop-cons}
 use Rattle.records.proofs.Cases.{split}
-use Rattle.scheduler.specs.Accepted.{Each, everyBelow}
-use Rattle.scheduler.proofs.Says.{equal, below}
+use Rattle.rules.specs.Accepted.{Each, everyBelow}
+use Rattle.rules.proofs.Says.{equal, below}
 use Rattle.frames.specs.Hex.{within, isDigit, digitValue, digitOf, isHex, byteOf, fromHex, toHex, IsDigitValue}
 use Rattle.frames.specs.Bytes.{AllBytes}
 

@@ -8,15 +8,15 @@ use native.Mathlib.Omega.{arith}
 use lib.ListN.{length, drop}
 use lib.Seq.{sets}
 use Rattle.records.specs.declared.task.TaskControlBlock.{TaskControlBlock}
-use Rattle.scheduler.specs.declared.answer.Answer.{Answer}
-use Rattle.scheduler.specs.declared.answer.ContextSwitchPlan.{ContextSwitchPlan}
-use Rattle.scheduler.specs.declared.answer.ContextSwitchTarget.{ContextSwitchTarget}
-use Rattle.scheduler.specs.declared.answer.PickOption.{PickOption}
-use Rattle.scheduler.specs.declared.answer.PlanOption.the-variants as plan
-use Rattle.scheduler.specs.declared.answer.TaskOption.the-variants as task
-use Rattle.scheduler.specs.declared.answer.Value.{Value}
-use Rattle.scheduler.specs.declared.answer.Value.the-variants as value
-use Rattle.scheduler.specs.Paper.{statusNumber, pickNumbers, slotNumber, targetNumbers, valueNumbers, recordNumbers}
+use Rattle.rules.specs.declared.answer.Answer.{Answer}
+use Rattle.rules.specs.declared.answer.ContextSwitchPlan.{ContextSwitchPlan}
+use Rattle.rules.specs.declared.answer.ContextSwitchTarget.{ContextSwitchTarget}
+use Rattle.rules.specs.declared.answer.PickOption.{PickOption}
+use Rattle.rules.specs.declared.answer.PlanOption.the-variants as plan
+use Rattle.rules.specs.declared.answer.TaskOption.the-variants as task
+use Rattle.rules.specs.declared.answer.Value.{Value}
+use Rattle.rules.specs.declared.answer.Value.the-variants as value
+use Rattle.rules.specs.Paper.{statusNumber, pickNumbers, slotNumber, targetNumbers, valueNumbers, recordNumbers}
 use Rattle.frames.specs.Answer.{recordWidths, recordBytes, recordPart, valueWidths, valueBytes, answerBytes}
 use Rattle.frames.specs.Bytes.{Puts, part, bytesOf, written, total}
 use Rattle.frames.proofs.Runs.{behind, run}

@@ -4,11 +4,11 @@ use mathlib.Core.Path.{_≡_, refl}
 use mathlib.Core.List.{List, [], _∷_, _++_}
 use Prim.Native.Nat.{ℕ}
 use Rattle.queue.specs.Rules.{pushed, entryAt, takenAt}
-use Rattle.scheduler.specs.Paper.{paper}
-use Rattle.scheduler.specs.Picking.{choice, ruleP}
-use Rattle.scheduler.specs.State.{newState, firstPlace}
-use Rattle.scheduler.specs.Ticking.{ticked, tick}
-use Rattle.scheduler.specs.Waking.{create, block, enqueue}
+use Rattle.rules.specs.Paper.{paper}
+use Rattle.rules.specs.Picking.{choice, ruleP}
+use Rattle.rules.specs.State.{newState, firstPlace}
+use Rattle.rules.specs.Ticking.{ticked, tick}
+use Rattle.rules.specs.Waking.{create, block, enqueue}
 use Rattle.frames.specs.Answer.{answerBytes}
 use Rattle.frames.specs.Bytes.{bigEndianFrom, bytesOf}
 use Rattle.frames.specs.Frame.{frameCall}

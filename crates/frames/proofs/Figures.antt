@@ -22,26 +22,26 @@ use Rattle.records.specs.Mask.{permits, storedMask}
 use Rattle.records.specs.State.{stateCode, codedState}
 use Rattle.records.specs.Task.{emptyRecord, created, terminated, blocked, picked}
 use Rattle.queue.specs.Rules.{full, takes, pushed, without, entryAt, takenAt}
-use Rattle.scheduler.specs.declared.answer.ContextSwitchTarget.the-variants as target
-use Rattle.scheduler.specs.declared.answer.CoreOption.the-variants as core
-use Rattle.scheduler.specs.declared.answer.PickOption.the-variants as pick
-use Rattle.scheduler.specs.declared.answer.PlanOption.the-variants as plan
-use Rattle.scheduler.specs.declared.answer.TaskOption.the-variants as task
-use Rattle.scheduler.specs.declared.answer.Value.{Value}
-use Rattle.scheduler.specs.declared.answer.Value.the-variants as value
-use Rattle.scheduler.specs.declared.call.Call.{Call}
-use Rattle.scheduler.specs.declared.call.Call.the-variants.{Create, Affinity, Terminate, Block, Wake, Enqueue, Schedule, Tick, Yield, Handoff, Plan}
-use Rattle.scheduler.specs.declared.call.Call.the-variants.{CanRunOnCore, TaskIndexForTid, Task, CurrentTaskOnCpu, SystemTicksUs, Holder}
-use Rattle.scheduler.specs.Accepted.{everyBelow, recordFits}
-use Rattle.scheduler.specs.Outcome.{answered, refusal}
-use Rattle.scheduler.specs.Paper.{recordNumbers, flagNumber, paper}
-use Rattle.scheduler.specs.Picking.{choice, ruleP, schedule}
-use Rattle.scheduler.specs.Queries.{canRunOnCore, taskIndexForTid, taskAt, currentTaskOnCpu, coreOf}
-use Rattle.scheduler.specs.State.{State, bandOrder, noneByte, newState, firstPlace, withMicros}
-use Rattle.scheduler.specs.Step.{step, run}
-use Rattle.scheduler.specs.Ticking.{ticked, tick, yield, handoff, planned}
-use Rattle.scheduler.specs.Waking.{create, affinity, terminate, block, enqueue, wake}
-use Rattle.scheduler.proofs.KCases.{slot as slotOf, make}
+use Rattle.rules.specs.declared.answer.ContextSwitchTarget.the-variants as target
+use Rattle.rules.specs.declared.answer.CoreOption.the-variants as core
+use Rattle.rules.specs.declared.answer.PickOption.the-variants as pick
+use Rattle.rules.specs.declared.answer.PlanOption.the-variants as plan
+use Rattle.rules.specs.declared.answer.TaskOption.the-variants as task
+use Rattle.rules.specs.declared.answer.Value.{Value}
+use Rattle.rules.specs.declared.answer.Value.the-variants as value
+use Rattle.rules.specs.declared.call.Call.{Call}
+use Rattle.rules.specs.declared.call.Call.the-variants.{Create, Affinity, Terminate, Block, Wake, Enqueue, Schedule, Tick, Yield, Handoff, Plan}
+use Rattle.rules.specs.declared.call.Call.the-variants.{CanRunOnCore, TaskIndexForTid, Task, CurrentTaskOnCpu, SystemTicksUs, Holder}
+use Rattle.rules.specs.Accepted.{everyBelow, recordFits}
+use Rattle.rules.specs.Outcome.{answered, refusal}
+use Rattle.rules.specs.Paper.{recordNumbers, flagNumber, paper}
+use Rattle.rules.specs.Picking.{choice, ruleP, schedule}
+use Rattle.rules.specs.Queries.{canRunOnCore, taskIndexForTid, taskAt, currentTaskOnCpu, coreOf}
+use Rattle.rules.specs.State.{State, bandOrder, noneByte, newState, firstPlace, withMicros}
+use Rattle.rules.specs.Step.{step, run}
+use Rattle.rules.specs.Ticking.{ticked, tick, yield, handoff, planned}
+use Rattle.rules.specs.Waking.{create, affinity, terminate, block, enqueue, wake}
+use Rattle.rules.proofs.KCases.{slot as slotOf, make}
 use Rattle.frames.specs.declared.decode.CallOption.the-variants.{None, Some}
 use Rattle.frames.specs.declared.refusal.HostError.the-variants.{WrongLength, NotAccepted, NoFrame}
 use Rattle.frames.specs.AcceptedImage.{codesFit, placeFits, bandFits}

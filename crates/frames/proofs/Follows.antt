@@ -3,14 +3,14 @@
 use mathlib.Core.Path.{_≡_, refl, sym, ap, subst, _∙_}
 use mathlib.Core.List.{List, [], _∷_, _++_}
 use mathlib.Core.Logic.{inl, inr}
-use Rattle.scheduler.specs.declared.answer.Answer.{Answer}
-use Rattle.scheduler.specs.declared.call.Call.{Call}
+use Rattle.rules.specs.declared.answer.Answer.{Answer}
+use Rattle.rules.specs.declared.call.Call.{Call}
 use Rattle.scheduler.specs.declared.scheduler.QoSScheduler.{QoSScheduler}
 use Rattle.scheduler.specs.declared.scheduler.Reply.{Reply}
 use Rattle.scheduler.specs.History.{Made, History, callsOf}
 use Rattle.scheduler.specs.Scheduler.{abs, Valid, Meets}
-use Rattle.scheduler.specs.State.{State}
-use Rattle.scheduler.specs.Step.{step, run}
+use Rattle.rules.specs.State.{State}
+use Rattle.rules.specs.Step.{step, run}
 use Rattle.scheduler.proofs.Histories.{a-reply}
 use Rattle.frames.specs.declared.decode.CallOption.{CallOption}
 use Rattle.frames.specs.declared.decode.CallOption.the-variants.{None, Some}

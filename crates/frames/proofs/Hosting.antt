@@ -9,18 +9,18 @@ use lib.Dec.{eqb}
 use lib.ListN.{length}
 use lib.Seq.{sets}
 use Rattle.records.specs.declared.error.SchedError.{SchedError}
-use Rattle.scheduler.specs.declared.answer.Answer.{Answer}
-use Rattle.scheduler.specs.declared.answer.Status.the-variants as status
-use Rattle.scheduler.specs.declared.call.Call.{Call}
+use Rattle.rules.specs.declared.answer.Answer.{Answer}
+use Rattle.rules.specs.declared.answer.Status.the-variants as status
+use Rattle.rules.specs.declared.call.Call.{Call}
 use Rattle.scheduler.specs.declared.scheduler.QoSScheduler.{QoSScheduler}
 use Rattle.scheduler.specs.declared.scheduler.Reply.{Reply}
-use Rattle.scheduler.specs.Outcome.{Outcome}
+use Rattle.rules.specs.Outcome.{Outcome}
 use Rattle.scheduler.specs.Scheduler.{abs, Meets}
-use Rattle.scheduler.specs.State.{State, newState, task}
-use Rattle.scheduler.specs.Step.{step}
-use Rattle.scheduler.specs.Touched.{namedSlot, answeredSlot, SameBut}
-use Rattle.scheduler.proofs.Elsewhere.{records-stay}
-use Rattle.scheduler.proofs.Refusals.{refused-whole}
+use Rattle.rules.specs.State.{State, newState, task}
+use Rattle.rules.specs.Step.{step}
+use Rattle.rules.specs.Touched.{namedSlot, answeredSlot, SameBut}
+use Rattle.rules.proofs.Elsewhere.{records-stay}
+use Rattle.rules.proofs.Refusals.{refused-whole}
 use Rattle.frames.specs.declared.decode.CallOption.{CallOption}
 use Rattle.frames.specs.declared.decode.CallOption.the-variants.{None, Some}
 use Rattle.frames.specs.declared.host.ImageAnswer.{ImageAnswer}

@@ -13,15 +13,15 @@ use Rattle.records.specs.declared.error.SchedError.{SchedError}
 use Rattle.records.specs.declared.error.SchedError.the-variants.{TableFull, QueueFull, NoSuchTask, AlreadyReady, AlreadyBlocked, NotBlocked}
 use Rattle.records.specs.Error.{errorCode}
 use Rattle.records.proofs.Cases.{by-if}
-use Rattle.scheduler.specs.declared.answer.Status.the-variants.{Refused}
-use Rattle.scheduler.specs.declared.call.Call.{Call}
+use Rattle.rules.specs.declared.answer.Status.the-variants.{Refused}
+use Rattle.rules.specs.declared.call.Call.{Call}
 use Rattle.scheduler.specs.declared.scheduler.QoSScheduler.{QoSScheduler}
-use Rattle.scheduler.specs.Accepted.{Each}
-use Rattle.scheduler.specs.Outcome.{Outcome, refusal, refused}
-use Rattle.scheduler.specs.Paper.{paper}
-use Rattle.scheduler.specs.State.{State, noneByte, newState}
-use Rattle.scheduler.specs.Step.{step, run}
-use Rattle.scheduler.proofs.Refusals.{refused-whole}
+use Rattle.rules.specs.Accepted.{Each}
+use Rattle.rules.specs.Outcome.{Outcome, refusal, refused}
+use Rattle.rules.specs.Paper.{paper}
+use Rattle.rules.specs.State.{State, noneByte, newState}
+use Rattle.rules.specs.Step.{step, run}
+use Rattle.rules.proofs.Refusals.{refused-whole}
 use Rattle.frames.specs.declared.decode.CallOption.{CallOption}
 use Rattle.frames.specs.declared.decode.CallOption.the-variants.{None, Some}
 use Rattle.frames.specs.declared.refusal.HostError.{HostError}

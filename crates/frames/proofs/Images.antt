@@ -20,10 +20,10 @@ use Rattle.records.proofs.Bands.{bandCode-small, codedBand-code}
 use Rattle.records.proofs.States.{codedState-code}
 use Rattle.queue.specs.Rules.{places}
 use Rattle.queue.proofs.Rules.{length-places}
-use Rattle.scheduler.specs.Accepted.{Each, Accepted}
-use Rattle.scheduler.specs.Paper.{recordNumbers, flagNumber}
-use Rattle.scheduler.specs.State.{State, noneByte, task, queue, holder}
-use Rattle.scheduler.proofs.Invariant.{no-holder}
+use Rattle.rules.specs.Accepted.{Each, Accepted}
+use Rattle.rules.specs.Paper.{recordNumbers, flagNumber}
+use Rattle.rules.specs.State.{State, noneByte, task, queue, holder}
+use Rattle.rules.proofs.Invariant.{no-holder}
 use Rattle.scheduler.proofs.Stored.{read-any}
 use Rattle.frames.specs.AcceptedImage.{AcceptedImage, bandByte, stateByte, inUseByte}
 use Rattle.frames.specs.Answer.{recordWidths, recordBytes}

@@ -8,7 +8,7 @@ use borrow.Author.Tests.{leb-true, leb-false, le-leb, lt-leb}
 use lib.Dec.{leb}
 use lib.ListN.{length, take, set}
 use lib.Seq.{sets}
-use Rattle.scheduler.specs.declared.answer.Answer.{Answer}
+use Rattle.rules.specs.declared.answer.Answer.{Answer}
 use Rattle.frames.specs.Answer.{answerBytes}
 use Rattle.frames.specs.Bytes.{Puts}
 use Rattle.frames.specs.Hex.{toHex}

@@ -26,25 +26,25 @@ use Rattle.records.proofs.Bands.{bandCode-small}
 use Rattle.records.proofs.Cases.{by-if}
 use Rattle.records.proofs.States.{stateCode-small}
 use Rattle.queue.specs.Rules.{full}
-use Rattle.scheduler.specs.declared.answer.PickOption.{PickOption}
-use Rattle.scheduler.specs.declared.answer.PickOption.the-variants as pick
-use Rattle.scheduler.specs.declared.answer.Status.{Status}
-use Rattle.scheduler.specs.declared.answer.Status.the-variants.{Done, Refused}
-use Rattle.scheduler.specs.declared.call.Call.{Call}
-use Rattle.scheduler.specs.declared.call.Call.the-variants.{Create, Affinity, Terminate, Block, Wake, Enqueue, Schedule, Tick, Yield, Handoff, Plan, CanRunOnCore, TaskIndexForTid, Task, CurrentTaskOnCpu, SystemTicksUs, Holder}
+use Rattle.rules.specs.declared.answer.PickOption.{PickOption}
+use Rattle.rules.specs.declared.answer.PickOption.the-variants as pick
+use Rattle.rules.specs.declared.answer.Status.{Status}
+use Rattle.rules.specs.declared.answer.Status.the-variants.{Done, Refused}
+use Rattle.rules.specs.declared.call.Call.{Call}
+use Rattle.rules.specs.declared.call.Call.the-variants.{Create, Affinity, Terminate, Block, Wake, Enqueue, Schedule, Tick, Yield, Handoff, Plan, CanRunOnCore, TaskIndexForTid, Task, CurrentTaskOnCpu, SystemTicksUs, Holder}
 use Rattle.scheduler.specs.declared.scheduler.QoSScheduler.{QoSScheduler}
 use Rattle.scheduler.specs.declared.scheduler.Reply.{Reply}
-use Rattle.scheduler.specs.Accepted.{Each, Accepted}
-use Rattle.scheduler.specs.Outcome.{Outcome, Chosen, goOn}
-use Rattle.scheduler.specs.Paper.{flagNumber}
-use Rattle.scheduler.specs.Picking.{choice, afterPick, ruleP, schedule}
+use Rattle.rules.specs.Accepted.{Each, Accepted}
+use Rattle.rules.specs.Outcome.{Outcome, Chosen, goOn}
+use Rattle.rules.specs.Paper.{flagNumber}
+use Rattle.rules.specs.Picking.{choice, afterPick, ruleP, schedule}
 use Rattle.scheduler.specs.Scheduler.{abs, Valid, Meets}
-use Rattle.scheduler.specs.State.{State, newState, bandOrder, task, queue, holderOf, withTask}
-use Rattle.scheduler.specs.Step.{step, run}
-use Rattle.scheduler.specs.Ticking.{gain, cleared, sliceOver, charged, requeued, tickHolder, ticked, tick, yieldHolder, yield, handoffIn, handoffHolder, handoff, planned}
-use Rattle.scheduler.specs.Waking.{freeSlot, create, affinity, terminate, missing, block, enqueue, isHeld, wake}
-use Rattle.scheduler.proofs.Calls.{new-accepted, call-accepted}
-use Rattle.scheduler.proofs.Invariant.{Good, empty-good, everywhere, accepted-invariant}
+use Rattle.rules.specs.State.{State, newState, bandOrder, task, queue, holderOf, withTask}
+use Rattle.rules.specs.Step.{step, run}
+use Rattle.rules.specs.Ticking.{gain, cleared, sliceOver, charged, requeued, tickHolder, ticked, tick, yieldHolder, yield, handoffIn, handoffHolder, handoff, planned}
+use Rattle.rules.specs.Waking.{freeSlot, create, affinity, terminate, missing, block, enqueue, isHeld, wake}
+use Rattle.rules.proofs.Calls.{new-accepted, call-accepted}
+use Rattle.rules.proofs.Invariant.{Good, empty-good, everywhere, accepted-invariant}
 use Rattle.frames.specs.declared.decode.CallOption.{CallOption}
 use Rattle.frames.specs.declared.decode.CallOption.the-variants.{None, Some}
 use Rattle.frames.specs.AcceptedImage.{AcceptedImage}

@@ -19,9 +19,9 @@ use Rattle.records.proofs.Cases.{split}
 use Rattle.queue.specs.declared.BandQueue.{BandQueue}
 use Rattle.queue.specs.Stored.{Holds}
 use Rattle.scheduler.specs.declared.scheduler.QoSScheduler.{QoSScheduler}
-use Rattle.scheduler.specs.Accepted.{Accepted, Each}
+use Rattle.rules.specs.Accepted.{Accepted, Each}
 use Rattle.scheduler.specs.Scheduler.{abs, queuesOf, Hold, IsNew}
-use Rattle.scheduler.specs.State.{queue}
+use Rattle.rules.specs.State.{queue}
 use Rattle.frames.specs.declared.read.ImageStatus.{ImageStatus}
 use Rattle.frames.specs.declared.read.ImageStatus.the-variants as read
 use Rattle.frames.specs.declared.refusal.HostError.{HostError}

@@ -13,7 +13,7 @@ use Rattle.records.specs.declared.state.ThreadState.the-variants.{Terminated}
 use Rattle.records.specs.declared.task.TaskControlBlock.{TaskControlBlock}
 use Rattle.records.specs.Band.{slice, codedBand}
 use Rattle.records.specs.State.{codedState, isState}
-use Rattle.scheduler.specs.Accepted.{recordFits, mayHold}
+use Rattle.rules.specs.Accepted.{recordFits, mayHold}
 use Rattle.frames.specs.Bytes.{numberAt, IsNumber}
 use Rattle.frames.specs.Image.{orEmptyBand, bandOf, orEmptyState, stateOf, recordIn}
 use Rattle.frames.specs.AcceptedImage.{codesFit}

@@ -8,13 +8,13 @@ use borrow.Author.Tests.{ltb-true, ltb-false, ne-eqb}
 use lib.Dec.{ltb}
 use lib.ListN.{length, getD, List·getD-eq-default}
 use Rattle.records.proofs.Cases.{split, by-if}
-use Rattle.scheduler.specs.Accepted.{everyBelow}
-use Rattle.scheduler.proofs.Says.{at-most, below}
+use Rattle.rules.specs.Accepted.{everyBelow}
+use Rattle.rules.proofs.Says.{at-most, below}
 use Rattle.frames.specs.declared.decode.CallOption.{CallOption}
 use Rattle.frames.specs.declared.decode.CallOption.the-variants.{None}
 use Rattle.frames.specs.Frame.{argumentWidths, argumentsLength, callsIn, frameCall}
 use Rattle.frames.specs.Bytes.{total}
-use Rattle.scheduler.specs.State.{State}
+use Rattle.rules.specs.State.{State}
 use Rattle.frames.specs.Hex.{isDigit, isHex, fromHex, toHex}
 use Rattle.frames.specs.Lines.{newline, lineCall, said, saidTo, lineText}
 use Rattle.frames.specs.Stream.{longestLine}

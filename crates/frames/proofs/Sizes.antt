@@ -8,18 +8,18 @@ use native.Mathlib.Omega.{arith}
 use lib.ListN.{length, length-append}
 use Rattle.records.specs.declared.ids.SlotOption.{SlotOption}
 use Rattle.records.specs.declared.task.TaskControlBlock.{TaskControlBlock}
-use Rattle.scheduler.specs.declared.answer.Answer.{Answer}
-use Rattle.scheduler.specs.declared.answer.ContextSwitchTarget.{ContextSwitchTarget}
-use Rattle.scheduler.specs.declared.answer.ContextSwitchTarget.the-variants as target
-use Rattle.scheduler.specs.declared.answer.PickOption.{PickOption}
-use Rattle.scheduler.specs.declared.answer.PickOption.the-variants as pick
-use Rattle.scheduler.specs.declared.answer.PlanOption.the-variants as plan
-use Rattle.scheduler.specs.declared.answer.TaskOption.the-variants as task
-use Rattle.scheduler.specs.declared.answer.Value.{Value}
-use Rattle.scheduler.specs.declared.answer.Value.the-variants as value
-use Rattle.scheduler.specs.Paper.{paper, statusNumber, pickNumbers, valueNumbers, recordNumbers, slotNumber, targetNumbers}
-use Rattle.scheduler.specs.State.{State}
-use Rattle.scheduler.specs.Step.{step}
+use Rattle.rules.specs.declared.answer.Answer.{Answer}
+use Rattle.rules.specs.declared.answer.ContextSwitchTarget.{ContextSwitchTarget}
+use Rattle.rules.specs.declared.answer.ContextSwitchTarget.the-variants as target
+use Rattle.rules.specs.declared.answer.PickOption.{PickOption}
+use Rattle.rules.specs.declared.answer.PickOption.the-variants as pick
+use Rattle.rules.specs.declared.answer.PlanOption.the-variants as plan
+use Rattle.rules.specs.declared.answer.TaskOption.the-variants as task
+use Rattle.rules.specs.declared.answer.Value.{Value}
+use Rattle.rules.specs.declared.answer.Value.the-variants as value
+use Rattle.rules.specs.Paper.{paper, statusNumber, pickNumbers, valueNumbers, recordNumbers, slotNumber, targetNumbers}
+use Rattle.rules.specs.State.{State}
+use Rattle.rules.specs.Step.{step}
 use Rattle.frames.specs.declared.decode.CallOption.{CallOption}
 use Rattle.frames.specs.declared.decode.CallOption.the-variants as call
 use Rattle.frames.specs.Answer.{recordWidths, recordBytes, valueWidths, valueBytes, answerBytes}

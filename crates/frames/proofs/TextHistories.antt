@@ -4,7 +4,7 @@ use mathlib.Core.Path.{_≡_, refl, sym, ap, subst}
 use mathlib.Core.List.{List, [], _∷_, _++_, map, flatten}
 use Prim.Native.Nat.{ℕ}
 use Rattle.scheduler.specs.declared.scheduler.QoSScheduler.{QoSScheduler}
-use Rattle.scheduler.specs.State.{State}
+use Rattle.rules.specs.State.{State}
 use Rattle.frames.specs.declared.decode.CallOption.{CallOption}
 use Rattle.frames.specs.declared.decode.CallOption.the-variants.{None, Some}
 use Rattle.frames.specs.declared.stream.Stream.{Stream}

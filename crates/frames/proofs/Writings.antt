@@ -21,8 +21,8 @@ use Rattle.queue.specs.Rules.{places}
 use Rattle.queue.specs.Stored.{entries, WellFormed}
 use Rattle.scheduler.specs.declared.scheduler.QoSScheduler.{QoSScheduler}
 use Rattle.scheduler.specs.Scheduler.{queuesOf, abs, Whole, Valid}
-use Rattle.scheduler.specs.State.{State, Queues, ofBand}
-use Rattle.scheduler.specs.Touched.{SameBut}
+use Rattle.rules.specs.State.{State, Queues, ofBand}
+use Rattle.rules.specs.Touched.{SameBut}
 use Rattle.scheduler.proofs.Stored.{read-any, ring-of, entries-of}
 use Rattle.frames.specs.AcceptedImage.{AcceptedImage}
 use Rattle.frames.specs.Answer.{recordBytes}

@@ -12,8 +12,8 @@ use Rattle.records.specs.declared.band.QoSClass.{QoSClass}
 use Rattle.records.specs.declared.state.ThreadState.the-variants.{Ready, Terminated}
 use Rattle.records.specs.Band.{slice}
 use Rattle.records.specs.State.{isState}
-use Rattle.scheduler.specs.Accepted.{ReadyOf, MayHold, every, everyBelow, standings, recordFits, readyOf, standsOnce, holderFits}
-use Rattle.scheduler.specs.State.{noneByte, bandOrder, task, holder}
+use Rattle.rules.specs.Accepted.{ReadyOf, MayHold, every, everyBelow, standings, recordFits, readyOf, standsOnce, holderFits}
+use Rattle.rules.specs.State.{noneByte, bandOrder, task, holder}
 use Rattle.frames.specs.Answer.{recordWidths}
 use Rattle.frames.specs.Bytes.{AllBytes, numbersAt}
 use Rattle.frames.specs.Image.{imageLength, recordAt, queueAt, lengthByte, slotByte, stateAt}

@@ -3,14 +3,14 @@ use mathlib.Core.List.{List, [], _∷_}
 use Prim.Native.Nat.{ℕ}
 use lib.ListN.{getD}
 use Rattle.records.specs.declared.task.TaskControlBlock.{TaskControlBlock}
-use Rattle.scheduler.specs.declared.answer.Answer.{Answer}
-use Rattle.scheduler.specs.declared.answer.PlanOption.{PlanOption}
-use Rattle.scheduler.specs.declared.answer.PlanOption.the-variants as plan
-use Rattle.scheduler.specs.declared.answer.TaskOption.{TaskOption}
-use Rattle.scheduler.specs.declared.answer.TaskOption.the-variants as task
-use Rattle.scheduler.specs.declared.answer.Value.{Value}
-use Rattle.scheduler.specs.declared.answer.Value.the-variants as value
-use Rattle.scheduler.specs.Paper.{paper, recordNumbers, valueNumbers}
+use Rattle.rules.specs.declared.answer.Answer.{Answer}
+use Rattle.rules.specs.declared.answer.PlanOption.{PlanOption}
+use Rattle.rules.specs.declared.answer.PlanOption.the-variants as plan
+use Rattle.rules.specs.declared.answer.TaskOption.{TaskOption}
+use Rattle.rules.specs.declared.answer.TaskOption.the-variants as task
+use Rattle.rules.specs.declared.answer.Value.{Value}
+use Rattle.rules.specs.declared.answer.Value.the-variants as value
+use Rattle.rules.specs.Paper.{paper, recordNumbers, valueNumbers}
 use Rattle.frames.specs.Bytes.{part, written}
 
 -- "A record is 47 bytes [..] tid 4, band 1, state 1, context 8, cr3 8, rsp0 8, mask 8, budget 4, consumed 4, in use 1"

@@ -3,11 +3,11 @@
 use mathlib.Core.Path.{_≡_}
 use mathlib.Core.List.{List, [], _∷_, _++_}
 use mathlib.Core.Logic.{_⊎_}
-use Rattle.scheduler.specs.declared.answer.Answer.{Answer}
-use Rattle.scheduler.specs.declared.call.Call.{Call}
+use Rattle.rules.specs.declared.answer.Answer.{Answer}
+use Rattle.rules.specs.declared.call.Call.{Call}
 use Rattle.scheduler.specs.declared.scheduler.QoSScheduler.{QoSScheduler}
 use Rattle.scheduler.specs.History.{Made, History, left, callsOf, CodePoint}
-use Rattle.scheduler.specs.State.{State}
+use Rattle.rules.specs.State.{State}
 use Rattle.frames.specs.declared.decode.CallOption.{CallOption}
 use Rattle.frames.specs.declared.decode.CallOption.the-variants.{None, Some}
 

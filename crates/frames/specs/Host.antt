@@ -7,13 +7,13 @@ use Prim.Native.Nat.{ℕ, _+_}
 use lib.Dec.{ltb, eqb}
 use lib.ListN.{length}
 use lib.Seq.{sets}
-use Rattle.scheduler.specs.declared.answer.Answer.{Answer}
-use Rattle.scheduler.specs.declared.call.Call.{Call}
+use Rattle.rules.specs.declared.answer.Answer.{Answer}
+use Rattle.rules.specs.declared.call.Call.{Call}
 use Rattle.scheduler.specs.declared.scheduler.QoSScheduler.{QoSScheduler}
-use Rattle.scheduler.specs.Outcome.{Outcome}
+use Rattle.rules.specs.Outcome.{Outcome}
 use Rattle.scheduler.specs.Scheduler.{abs, Valid}
-use Rattle.scheduler.specs.State.{State, newState}
-use Rattle.scheduler.specs.Step.{step}
+use Rattle.rules.specs.State.{State, newState}
+use Rattle.rules.specs.Step.{step}
 use Rattle.frames.specs.declared.decode.CallOption.{CallOption}
 use Rattle.frames.specs.declared.decode.CallOption.the-variants.{None, Some}
 use Rattle.frames.specs.declared.host.ImageAnswer.{ImageAnswer}

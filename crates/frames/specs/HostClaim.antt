@@ -7,13 +7,13 @@ use Prim.Native.Nat.{ℕ}
 use lib.Dec.{ltb}
 use lib.ListN.{length}
 use lib.Seq.{sets}
-use Rattle.scheduler.specs.declared.answer.Answer.{Answer}
+use Rattle.rules.specs.declared.answer.Answer.{Answer}
 use Rattle.scheduler.specs.declared.scheduler.QoSScheduler.{QoSScheduler}
 use Rattle.scheduler.specs.History.{Made, left}
-use Rattle.scheduler.specs.Paper.{pickNumbers}
+use Rattle.rules.specs.Paper.{pickNumbers}
 use Rattle.scheduler.specs.Scheduler.{abs}
-use Rattle.scheduler.specs.State.{State}
-use Rattle.scheduler.specs.Step.{run}
+use Rattle.rules.specs.State.{State}
+use Rattle.rules.specs.Step.{run}
 use Rattle.frames.specs.declared.decode.CallOption.the-variants.{None}
 use Rattle.frames.specs.declared.refusal.HostError.{HostError}
 use Rattle.frames.specs.declared.refusal.HostError.the-variants.{WrongLength, NoFrame}

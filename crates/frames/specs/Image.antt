@@ -16,9 +16,9 @@ use Rattle.records.specs.Band.{bandCode, codedBand}
 use Rattle.records.specs.State.{codedState}
 use Rattle.records.specs.Task.{emptyRecord}
 use Rattle.queue.specs.Rules.{places}
-use Rattle.scheduler.specs.Accepted.{Each}
-use Rattle.scheduler.specs.Paper.{recordNumbers}
-use Rattle.scheduler.specs.State.{State, Queues}
+use Rattle.rules.specs.Accepted.{Each}
+use Rattle.rules.specs.Paper.{recordNumbers}
+use Rattle.rules.specs.State.{State, Queues}
 use Rattle.frames.specs.Answer.{recordWidths, recordBytes}
 use Rattle.frames.specs.Bytes.{bytesOf, part, numberAt, numbersAt, total, Fit}
 

@@ -7,8 +7,8 @@ use lib.Dec.{eqb}
 use lib.ListN.{length, getD}
 use Rattle.records.specs.declared.band.QoSClass.{QoSClass}
 use Rattle.queue.specs.Rules.{count}
-use Rattle.scheduler.specs.Accepted.{every}
-use Rattle.scheduler.specs.State.{State, Queues, ofBand}
+use Rattle.rules.specs.Accepted.{every}
+use Rattle.rules.specs.State.{State, Queues, ofBand}
 use Rattle.frames.specs.Fits.{HasImage}
 use Rattle.frames.specs.Image.{imageLength, queueAt, lengthByte, imageOf}
 

@@ -6,7 +6,7 @@ use Prim.Native.Nat.{ℕ}
 use Rattle.scheduler.specs.declared.scheduler.QoSScheduler.{QoSScheduler}
 use Rattle.scheduler.specs.History.{Made, History, CodeClaim}
 use Rattle.scheduler.specs.Scheduler.{IsNew}
-use Rattle.scheduler.specs.State.{State, newState}
+use Rattle.rules.specs.State.{State, newState}
 use Rattle.frames.specs.declared.read.ImageRead.{ImageRead}
 use Rattle.frames.specs.AcceptedImage.{AcceptedImage}
 use Rattle.frames.specs.Host.{ReadsImage}

@@ -6,7 +6,7 @@ use mathlib.Core.List.{List, [], _∷_, _++_, map, flatten}
 use Prim.Native.Nat.{ℕ, _+_}
 use lib.ListN.{take, drop}
 use Rattle.scheduler.specs.declared.scheduler.QoSScheduler.{QoSScheduler}
-use Rattle.scheduler.specs.State.{State}
+use Rattle.rules.specs.State.{State}
 use Rattle.frames.specs.declared.stream.Fed.{Fed}
 use Rattle.frames.specs.declared.stream.Stream.{Stream}
 use Rattle.frames.specs.Answer.{answerBytes}

@@ -5,7 +5,7 @@ ghost use Prim.Native.Nat.{_+_, _^_, _<_};
 ghost use lib.Seq.{sets};
 ghost use Rattle.frames.specs.Answer.{answerBytes, valueBytes, recordBytes, recordPart};
 ghost use Rattle.frames.specs.Bytes.{Puts, written};
-ghost use Rattle.scheduler.specs.Paper.{statusNumber, pickNumbers, slotNumber, coreNumber, flagNumber};
+ghost use Rattle.rules.specs.Paper.{statusNumber, pickNumbers, slotNumber, coreNumber, flagNumber};
 use crate::bytes::put_number;
 use crate::layout::BUDGET_AT;
 use crate::layout::CONTEXT_AT;

@@ -5,7 +5,7 @@ ghost use lib.ListN.{length};
 ghost use lib.Seq.{sets};
 ghost use Rattle.queue.specs.Stored.{entries, WellFormed};
 ghost use Rattle.scheduler.specs.Scheduler.{abs, queuesOf, Valid, Whole};
-ghost use Rattle.scheduler.specs.Touched.{SameBut};
+ghost use Rattle.rules.specs.Touched.{SameBut};
 ghost use Rattle.frames.specs.AcceptedImage.{AcceptedImage};
 ghost use Rattle.frames.specs.Image.{queueLength, queuesPlace, recordsBytes, queueBytes, queuesBytes, imageOf, stateAt};
 ghost use Rattle.frames.specs.ImageParts.{WritesImage, Short};

@@ -3,7 +3,7 @@ ghost use mathlib.Core.Path.{_≡_};
 ghost use lib.ListN.{length};
 ghost use Rattle.queue.specs.Stored.{Holds};
 ghost use Rattle.scheduler.specs.Scheduler.{Hold};
-ghost use Rattle.scheduler.specs.State.{queue};
+ghost use Rattle.rules.specs.State.{queue};
 ghost use Rattle.frames.specs.AcceptedImage.{AcceptedImage};
 ghost use Rattle.frames.specs.Host.{imageStatus, ReadsImage, ReadAs};
 ghost use Rattle.frames.specs.Image.{imageLength, stateAt};

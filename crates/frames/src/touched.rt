@@ -1,8 +1,8 @@
 // The two slots whose records a call can change: the one that it names or that its core holds, and the one that it answers with.
 ghost use mathlib.Core.Path.{_≡_};
 ghost use lib.ListN.{length};
-ghost use Rattle.scheduler.specs.State.{holder};
-ghost use Rattle.scheduler.specs.Touched.{namedSlot, valueSlot, answeredSlot};
+ghost use Rattle.rules.specs.State.{holder};
+ghost use Rattle.rules.specs.Touched.{namedSlot, valueSlot, answeredSlot};
 ghost use Rattle.frames.specs.Image.{imageLength, stateAt};
 use crate::encode::slot_number;
 use crate::layout::HOLDERS_AT;

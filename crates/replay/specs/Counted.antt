@@ -6,7 +6,7 @@ use Prim.Native.Nat.{ℕ, _+_, _%_, _^_, _≤_, _<_}
 use lib.Dec.{eqb, ltb}
 use lib.ListN.{length, take}
 use Rattle.scheduler.specs.Scheduler.{abs}
-use Rattle.scheduler.specs.State.{newState}
+use Rattle.rules.specs.State.{newState}
 use Rattle.frames.specs.declared.stream.Fed.{Fed}
 use Rattle.frames.specs.Stream.{heldIn, ValidStream, Feeds}
 use Rattle.replay.specs.declared.Replay.{Replay}

@@ -16,22 +16,22 @@ use Rattle.records.specs.Mask.{permits}
 use Rattle.records.specs.Task.{emptyRecord}
 use Rattle.queue.specs.declared.BandQueue.{BandQueue}
 use Rattle.queue.specs.Stored.{Holds}
-use Rattle.scheduler.specs.declared.answer.ContextSwitchTarget.{ContextSwitchTarget}
-use Rattle.scheduler.specs.declared.answer.CoreOption.the-variants as core
-use Rattle.scheduler.specs.declared.answer.PlanOption.the-variants as plan
-use Rattle.scheduler.specs.declared.answer.TaskOption.the-variants as task
-use Rattle.scheduler.specs.declared.answer.Value.{Value}
-use Rattle.scheduler.specs.declared.answer.Value.the-variants as value
+use Rattle.rules.specs.declared.answer.ContextSwitchTarget.{ContextSwitchTarget}
+use Rattle.rules.specs.declared.answer.CoreOption.the-variants as core
+use Rattle.rules.specs.declared.answer.PlanOption.the-variants as plan
+use Rattle.rules.specs.declared.answer.TaskOption.the-variants as task
+use Rattle.rules.specs.declared.answer.Value.{Value}
+use Rattle.rules.specs.declared.answer.Value.the-variants as value
 use Rattle.scheduler.specs.declared.picking.Form.the-variants as form
 use Rattle.scheduler.specs.declared.scheduler.QoSScheduler.{QoSScheduler}
-use Rattle.scheduler.specs.State as state
-use Rattle.scheduler.specs.State.{noneByte, newState, holderIn, holderOf, firstPlace}
-use Rattle.scheduler.specs.Accepted.{Accepted, Each}
-use Rattle.scheduler.specs.Queries.{canRunOnCore, hasTid, taskIndexForTid, taskAt, recordOf, currentTaskOnCpu, coreOf}
-use Rattle.scheduler.specs.Ticking.{same}
-use Rattle.scheduler.specs.Waking.{released}
+use Rattle.rules.specs.State as state
+use Rattle.rules.specs.State.{noneByte, newState, holderIn, holderOf, firstPlace}
+use Rattle.rules.specs.Accepted.{Accepted, Each}
+use Rattle.rules.specs.Queries.{canRunOnCore, hasTid, taskIndexForTid, taskAt, recordOf, currentTaskOnCpu, coreOf}
+use Rattle.rules.specs.Ticking.{same}
+use Rattle.rules.specs.Waking.{released}
 use Rattle.scheduler.specs.Scheduler.{queuesOf, abs, Valid, IsNew, switchTo, targetWith, whoRuns}
-use Rattle.scheduler.proofs.Calls.{new-accepted}
+use Rattle.rules.proofs.Calls.{new-accepted}
 use Rattle.scheduler.proofs.Holders.{held, holder-below}
 use Rattle.scheduler.proofs.Searches.{search-found}
 use Rattle.scheduler.proofs.Stored.{slots, record-at}

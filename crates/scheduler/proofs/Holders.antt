@@ -6,13 +6,13 @@ use Rattle.records.specs.declared.ids.Slot.{Slot}
 use Rattle.records.specs.declared.ids.SlotOption.{SlotOption}
 use Rattle.records.specs.declared.ids.SlotOption.the-variants as slot
 use Rattle.scheduler.specs.declared.scheduler.QoSScheduler.{QoSScheduler}
-use Rattle.scheduler.specs.State.{State, noneByte, task, holderIn, holderOf}
-use Rattle.scheduler.specs.Accepted.{Accepted, MayHold}
-use Rattle.scheduler.specs.Ticking.{cleared}
+use Rattle.rules.specs.State.{State, noneByte, task, holderIn, holderOf}
+use Rattle.rules.specs.Accepted.{Accepted, MayHold}
+use Rattle.rules.specs.Ticking.{cleared}
 use Rattle.scheduler.specs.Scheduler.{abs, Valid}
-use Rattle.scheduler.proofs.Effects.{holder-is, clears}
-use Rattle.scheduler.proofs.Invariant.{Invariant, accepted-invariant, invariant-accepted, used-in-table}
-use Rattle.scheduler.proofs.Moves.{Harmless}
+use Rattle.rules.proofs.Effects.{holder-is, clears}
+use Rattle.rules.proofs.Invariant.{Invariant, accepted-invariant, invariant-accepted, used-in-table}
+use Rattle.rules.proofs.Moves.{Harmless}
 use Rattle.scheduler.proofs.Stored.{holder-at}
 
 -- what a change that harms nobody leaves is accepted

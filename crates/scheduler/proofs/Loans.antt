@@ -20,7 +20,7 @@ use denote.Triple.Statement.{Contract}
 use denote.Triple.Clauses.{ensured}
 use Rattle.records.specs.declared.ids.Slot.{Slot}
 use Rattle.records.proofs.ids.Slot as L
-use Rattle.scheduler.specs.declared.call.Call.the-variants as call
+use Rattle.rules.specs.declared.call.Call.the-variants as call
 use Rattle.scheduler.specs.declared.scheduler.QoSScheduler.{QoSScheduler}
 use Rattle.scheduler.specs.Scheduler.{Valid, MeetsLent}
 use Rattle.scheduler.proofs.MachineValues.{slotVals, slotOwns, slot-owned, tickVals, tickOwns, tick-owned}

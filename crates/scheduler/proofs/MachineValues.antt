@@ -24,12 +24,12 @@ use denote.Struct.Laws as LL
 use Rattle.records.specs.declared.ids.Slot.{Slot}
 use Rattle.records.proofs.ids.Slot as L
 use Rattle.records.proofs.ids.Slot.Laws as L′
-use Rattle.scheduler.specs.declared.answer.Answer.{Answer}
+use Rattle.rules.specs.declared.answer.Answer.{Answer}
 use Rattle.scheduler.specs.declared.scheduler.QoSScheduler.{QoSScheduler}
 use Rattle.scheduler.proofs.scheduler.QoSScheduler as S
 use Rattle.scheduler.proofs.scheduler.QoSScheduler.Laws as S′
-use Rattle.scheduler.proofs.answer.Answer as N
-use Rattle.scheduler.proofs.answer.Answer.Laws as N′
+use Rattle.rules.proofs.answer.Answer as N
+use Rattle.rules.proofs.answer.Answer.Laws as N′
 
 -- a state is one machine value
 pub record OneValue (s : QoSScheduler) (vs : List Val) : Type 0 where

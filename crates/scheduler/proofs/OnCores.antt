@@ -21,23 +21,23 @@ use Rattle.queue.specs.Answers.{Take}
 use Rattle.queue.specs.Rules.{entryAt, takenAt}
 use Rattle.queue.specs.Stored.{entries, Holds}
 use Rattle.queue.proofs.Rules.{entryAt-some}
-use Rattle.scheduler.specs.declared.answer.Answer.{Answer}
-use Rattle.scheduler.specs.declared.answer.PickOption.the-variants as pick
-use Rattle.scheduler.specs.declared.answer.Value.{Value}
-use Rattle.scheduler.specs.declared.answer.Value.the-variants as value
-use Rattle.scheduler.specs.declared.call.Call.the-variants.{Schedule}
+use Rattle.rules.specs.declared.answer.Answer.{Answer}
+use Rattle.rules.specs.declared.answer.PickOption.the-variants as pick
+use Rattle.rules.specs.declared.answer.Value.{Value}
+use Rattle.rules.specs.declared.answer.Value.the-variants as value
+use Rattle.rules.specs.declared.call.Call.the-variants.{Schedule}
 use Rattle.scheduler.specs.declared.picking.Form.{Form}
 use Rattle.scheduler.specs.declared.scheduler.QoSScheduler.{QoSScheduler}
 use Rattle.scheduler.specs.declared.scheduler.Reply.{Reply}
-use Rattle.scheduler.specs.State.{State, noneByte, bandOrder, task, queue, withBand}
-use Rattle.scheduler.specs.Accepted.{Accepted, ReadyOf}
-use Rattle.scheduler.specs.Outcome.{Chosen, answered}
-use Rattle.scheduler.specs.Picking.{permitted, placeFor, choice, afterPick, ruleP, answerSlot, schedule}
-use Rattle.scheduler.specs.Ticking.{waitsBefore}
+use Rattle.rules.specs.State.{State, noneByte, bandOrder, task, queue, withBand}
+use Rattle.rules.specs.Accepted.{Accepted, ReadyOf}
+use Rattle.rules.specs.Outcome.{Chosen, answered}
+use Rattle.rules.specs.Picking.{permitted, placeFor, choice, afterPick, ruleP, answerSlot, schedule}
+use Rattle.rules.specs.Ticking.{waitsBefore}
 use Rattle.scheduler.specs.Scheduler.{queuesOf, abs, Valid, Meets, Gives, answerIn, whoRuns, Hold, toldBy}
-use Rattle.scheduler.proofs.Calls.{call-accepted}
-use Rattle.scheduler.proofs.Invariant.{ready-in-table}
-use Rattle.scheduler.proofs.Picks.{P-past, P-below}
+use Rattle.rules.proofs.Calls.{call-accepted}
+use Rattle.rules.proofs.Invariant.{ready-in-table}
+use Rattle.rules.proofs.Picks.{P-past, P-below}
 use Rattle.scheduler.proofs.Promises.{leaving, meets-told, meets-given, gives-chosen, gives-as}
 use Rattle.scheduler.proofs.Seeking.{Seeking, seeking-band, seeking-place, found-place, found-first, before, chosen, none-chosen, waits-found, waits-none}
 use Rattle.scheduler.proofs.Stored.{record-at, band-at, queue-at, queue-back}

@@ -31,8 +31,8 @@ use denote.Struct.Laws as LL
 use denote.Triple.Statement.{Contract, Triple}
 use denote.Triple.Call.{calls-at}
 use denote.Triple.Walked.{says}
-use Rattle.scheduler.specs.declared.answer.Answer.{Answer}
-use Rattle.scheduler.specs.declared.call.Call.{Call}
+use Rattle.rules.specs.declared.answer.Answer.{Answer}
+use Rattle.rules.specs.declared.call.Call.{Call}
 use Rattle.scheduler.specs.declared.scheduler.QoSScheduler.{QoSScheduler}
 use Rattle.scheduler.specs.declared.scheduler.Reply.{Reply}
 use Rattle.scheduler.specs.Scheduler.{Meets}
@@ -41,8 +41,8 @@ use Rattle.scheduler.proofs.scheduler.QoSScheduler as S
 use Rattle.scheduler.proofs.scheduler.QoSScheduler.Laws as S′
 use Rattle.scheduler.proofs.scheduler.Reply as R
 use Rattle.scheduler.proofs.scheduler.Reply.Laws as R′
-use Rattle.scheduler.proofs.answer.Answer as N
-use Rattle.scheduler.proofs.answer.Answer.Laws as N′
+use Rattle.rules.proofs.answer.Answer as N
+use Rattle.rules.proofs.answer.Answer.Laws as N′
 
 -- ---- a reply's machine value
 

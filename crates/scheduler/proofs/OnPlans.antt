@@ -18,18 +18,18 @@ use Rattle.queue.specs.declared.BandQueue.{BandQueue}
 use Rattle.queue.specs.declared.Pushed.{Pushed}
 use Rattle.queue.specs.Answers.{Push}
 use Rattle.queue.specs.Rules.{pushed}
-use Rattle.scheduler.specs.declared.answer.PlanOption.the-variants as plan
-use Rattle.scheduler.specs.declared.answer.Value.the-variants as value
-use Rattle.scheduler.specs.declared.call.Call.the-variants.{Yield, Handoff, Plan}
+use Rattle.rules.specs.declared.answer.PlanOption.the-variants as plan
+use Rattle.rules.specs.declared.answer.Value.the-variants as value
+use Rattle.rules.specs.declared.call.Call.the-variants.{Yield, Handoff, Plan}
 use Rattle.scheduler.specs.declared.scheduler.QoSScheduler.{QoSScheduler}
 use Rattle.scheduler.specs.declared.scheduler.Reply.{Reply}
-use Rattle.scheduler.specs.State.{State, noneByte, task, queue, holderIn, withBand, withTask, withQueue}
-use Rattle.scheduler.specs.Accepted.{Accepted}
-use Rattle.scheduler.specs.Picking.{ruleP}
-use Rattle.scheduler.specs.Waking.{enqueued}
-use Rattle.scheduler.specs.Ticking.{cleared, answerPlan, yieldHolder, yield, handoffIn, handoffHolder, handoff}
+use Rattle.rules.specs.State.{State, noneByte, task, queue, holderIn, withBand, withTask, withQueue}
+use Rattle.rules.specs.Accepted.{Accepted}
+use Rattle.rules.specs.Picking.{ruleP}
+use Rattle.rules.specs.Waking.{enqueued}
+use Rattle.rules.specs.Ticking.{cleared, answerPlan, yieldHolder, yield, handoffIn, handoffHolder, handoff}
 use Rattle.scheduler.specs.Scheduler.{queuesOf, abs, Valid, Meets, Gives, Hold, toldBy, refusedBy}
-use Rattle.scheduler.proofs.Effects.{enqueue-done, idle-in, yields}
+use Rattle.rules.proofs.Effects.{enqueue-done, idle-in, yields}
 use Rattle.scheduler.proofs.Holders.{harmless-accepted, known, held, holder-may, holder-below, let-go, let-go-is}
 use Rattle.scheduler.proofs.Promises.{meets-told, meets-refused, meets-given}
 use Rattle.scheduler.proofs.Stored.{record-at, pushed-back}

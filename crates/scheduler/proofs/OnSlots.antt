@@ -25,16 +25,16 @@ use Rattle.queue.specs.Answers.{Push}
 use Rattle.queue.specs.Stored.{entries}
 use Rattle.queue.specs.Rules.{full, without}
 use Rattle.queue.proofs.Rules.{takes-slot}
-use Rattle.scheduler.specs.declared.answer.Answer.{Answer}
-use Rattle.scheduler.specs.declared.answer.PickOption.the-variants as pick
-use Rattle.scheduler.specs.declared.answer.Value.the-variants as value
-use Rattle.scheduler.specs.declared.call.Call.the-variants.{Create, Affinity, Terminate, Block, Wake, Enqueue}
+use Rattle.rules.specs.declared.answer.Answer.{Answer}
+use Rattle.rules.specs.declared.answer.PickOption.the-variants as pick
+use Rattle.rules.specs.declared.answer.Value.the-variants as value
+use Rattle.rules.specs.declared.call.Call.the-variants.{Create, Affinity, Terminate, Block, Wake, Enqueue}
 use Rattle.scheduler.specs.declared.scheduler.QoSScheduler.{QoSScheduler}
 use Rattle.scheduler.specs.declared.scheduler.Reply.{Reply}
-use Rattle.scheduler.specs.State.{firstPlace, task, queue, eachQueue}
-use Rattle.scheduler.specs.Outcome.{answered}
+use Rattle.rules.specs.State.{firstPlace, task, queue, eachQueue}
+use Rattle.rules.specs.Outcome.{answered}
 use Rattle.scheduler.specs.Scheduler.{queuesOf, abs, Valid, Meets, Hold, refusedBy}
-use Rattle.scheduler.specs.Waking.{freeSlot, create, released, affinity, terminate, missing, block, wake, enqueue}
+use Rattle.rules.specs.Waking.{freeSlot, create, released, affinity, terminate, missing, block, wake, enqueue}
 use Rattle.scheduler.proofs.Promises.{leaving, meets-put, kept, meets-refused, meets-as}
 use Rattle.scheduler.proofs.Stored.{slots, record-at, queue-at, pushed-back}
 use Rattle.scheduler.proofs.Searches.{search-on, search-found}

@@ -22,28 +22,28 @@ use Rattle.queue.specs.declared.BandQueue.{BandQueue}
 use Rattle.queue.specs.declared.Pushed.{Pushed}
 use Rattle.queue.specs.Answers.{Push}
 use Rattle.queue.specs.Rules.{pushed}
-use Rattle.scheduler.specs.declared.answer.Answer.{Answer}
-use Rattle.scheduler.specs.declared.answer.PickOption.the-variants as pick
-use Rattle.scheduler.specs.declared.answer.PlanOption.the-variants as plan
-use Rattle.scheduler.specs.declared.answer.Value.{Value}
-use Rattle.scheduler.specs.declared.answer.Value.the-variants as value
-use Rattle.scheduler.specs.declared.call.Call.the-variants.{Tick, Plan}
+use Rattle.rules.specs.declared.answer.Answer.{Answer}
+use Rattle.rules.specs.declared.answer.PickOption.the-variants as pick
+use Rattle.rules.specs.declared.answer.PlanOption.the-variants as plan
+use Rattle.rules.specs.declared.answer.Value.{Value}
+use Rattle.rules.specs.declared.answer.Value.the-variants as value
+use Rattle.rules.specs.declared.call.Call.the-variants.{Tick, Plan}
 use Rattle.scheduler.specs.declared.picking.Form.{Form}
 use Rattle.scheduler.specs.declared.picking.Form.the-variants as form
 use Rattle.scheduler.specs.declared.scheduler.QoSScheduler.{QoSScheduler}
 use Rattle.scheduler.specs.declared.scheduler.Reply.{Reply}
-use Rattle.scheduler.specs.State.{State, task, queue, holderIn, holderOf, withTask, withBand, withQueue}
-use Rattle.scheduler.specs.Accepted.{Accepted}
-use Rattle.scheduler.specs.Outcome.{Chosen, answered, done}
-use Rattle.scheduler.specs.Picking.{noChoice, ruleP}
-use Rattle.scheduler.specs.Ticking.{gain, waitsBefore, sliceOver, requeued, staysHolder, ticked, tick, answerPlan, planned}
-use Rattle.scheduler.specs.Took.{outOfSlice}
+use Rattle.rules.specs.State.{State, task, queue, holderIn, holderOf, withTask, withBand, withQueue}
+use Rattle.rules.specs.Accepted.{Accepted}
+use Rattle.rules.specs.Outcome.{Chosen, answered, done}
+use Rattle.rules.specs.Picking.{noChoice, ruleP}
+use Rattle.rules.specs.Ticking.{gain, waitsBefore, sliceOver, requeued, staysHolder, ticked, tick, answerPlan, planned}
+use Rattle.rules.specs.Took.{outOfSlice}
 use Rattle.scheduler.specs.Scheduler.{queuesOf, abs, Whole, Valid, Meets, Gives, answerIn, whoRuns, Hold, toldBy}
-use Rattle.scheduler.proofs.Calls.{call-accepted}
-use Rattle.scheduler.proofs.Effects.{slice-ends}
+use Rattle.rules.proofs.Calls.{call-accepted}
+use Rattle.rules.proofs.Effects.{slice-ends}
 use Rattle.scheduler.proofs.Holders.{harmless-accepted, known, held, holder-may, holder-below, let-go, let-go-is}
-use Rattle.scheduler.proofs.Invariant.{no-holder}
-use Rattle.scheduler.proofs.Moves.{Harmless, time}
+use Rattle.rules.proofs.Invariant.{no-holder}
+use Rattle.rules.proofs.Moves.{Harmless, time}
 use Rattle.scheduler.proofs.Promises.{meets-given, gives-chosen, gives-as}
 use Rattle.scheduler.proofs.Stored.{record-at, pushed-back}
 

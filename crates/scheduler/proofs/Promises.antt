@@ -9,24 +9,24 @@ use Rattle.records.specs.declared.ids.SlotOption.{SlotOption}
 use Rattle.records.specs.declared.ids.SlotOption.the-variants as slot
 use Rattle.records.specs.declared.task.TaskControlBlock.{TaskControlBlock}
 use Rattle.queue.specs.declared.BandQueue.{BandQueue}
-use Rattle.scheduler.specs.declared.answer.Answer.{Answer}
-use Rattle.scheduler.specs.declared.answer.ContextSwitchTarget.{ContextSwitchTarget}
-use Rattle.scheduler.specs.declared.answer.ContextSwitchTarget.the-variants.{Task}
-use Rattle.scheduler.specs.declared.answer.PickOption.the-variants as pick
-use Rattle.scheduler.specs.declared.answer.Value.{Value}
-use Rattle.scheduler.specs.declared.answer.Value.the-variants as value
-use Rattle.scheduler.specs.declared.call.Call.{Call}
+use Rattle.rules.specs.declared.answer.Answer.{Answer}
+use Rattle.rules.specs.declared.answer.ContextSwitchTarget.{ContextSwitchTarget}
+use Rattle.rules.specs.declared.answer.ContextSwitchTarget.the-variants.{Task}
+use Rattle.rules.specs.declared.answer.PickOption.the-variants as pick
+use Rattle.rules.specs.declared.answer.Value.{Value}
+use Rattle.rules.specs.declared.answer.Value.the-variants as value
+use Rattle.rules.specs.declared.call.Call.{Call}
 use Rattle.scheduler.specs.declared.picking.Form.{Form}
 use Rattle.scheduler.specs.declared.picking.Form.the-variants as form
 use Rattle.scheduler.specs.declared.scheduler.QoSScheduler.{QoSScheduler}
 use Rattle.scheduler.specs.declared.scheduler.Reply.{Reply}
-use Rattle.scheduler.specs.State.{State, Queues, task}
-use Rattle.scheduler.specs.Accepted.{Accepted}
-use Rattle.scheduler.specs.Outcome.{Outcome, Chosen, answered, done, refused}
-use Rattle.scheduler.specs.Ticking.{targetOf, planTo}
-use Rattle.scheduler.specs.Step.{step}
+use Rattle.rules.specs.State.{State, Queues, task}
+use Rattle.rules.specs.Accepted.{Accepted}
+use Rattle.rules.specs.Outcome.{Outcome, Chosen, answered, done, refused}
+use Rattle.rules.specs.Ticking.{targetOf, planTo}
+use Rattle.rules.specs.Step.{step}
 use Rattle.scheduler.specs.Scheduler.{queuesOf, abs, Whole, Valid, Meets, toldBy, refusedBy, Gives, answerIn, targetWith, whoRuns, Hold}
-use Rattle.scheduler.proofs.Calls.{call-accepted}
+use Rattle.rules.proofs.Calls.{call-accepted}
 
 -- a reply with these arrays, and the time as it was
 abbrev pub leaving : QoSScheduler → Answer → List TaskControlBlock → List BandQueue → List ℕ → Reply

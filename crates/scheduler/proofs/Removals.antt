@@ -15,7 +15,7 @@ use Rattle.records.specs.Band.{bandCode}
 use Rattle.queue.specs.declared.BandQueue.{BandQueue}
 use Rattle.queue.specs.Stored.{entries, Holds}
 use Rattle.queue.specs.Rules.{without}
-use Rattle.scheduler.specs.State.{Queues, ofBand, withBand, eachQueue}
+use Rattle.rules.specs.State.{Queues, ofBand, withBand, eachQueue}
 use Rattle.scheduler.specs.Scheduler.{queuesOf, Whole, Hold}
 use Rattle.scheduler.proofs.Stored.{band-at, entries-at, queue-put}
 

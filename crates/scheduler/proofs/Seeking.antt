@@ -16,10 +16,10 @@ use Rattle.records.proofs.Bands.{bandCode-one}
 use Rattle.records.proofs.Cases.{split}
 use Rattle.queue.specs.Rules.{entryAt}
 use Rattle.queue.proofs.Rules.{entryAt-some, entryAt-none, entryAt-past}
-use Rattle.scheduler.specs.declared.answer.PickOption.the-variants as pick
-use Rattle.scheduler.specs.State.{State, bandOrder, queue}
-use Rattle.scheduler.specs.Picking.{permitted, placeFor, firstPermitted, waitsIn, choice}
-use Rattle.scheduler.specs.Ticking.{waitsBefore}
+use Rattle.rules.specs.declared.answer.PickOption.the-variants as pick
+use Rattle.rules.specs.State.{State, bandOrder, queue}
+use Rattle.rules.specs.Picking.{permitted, placeFor, firstPermitted, waitsIn, choice}
+use Rattle.rules.specs.Ticking.{waitsBefore}
 use Rattle.scheduler.proofs.Searches.{search-on, search-found}
 
 -- no band before this place has a permitted entry, nor has this one before `place`

@@ -16,8 +16,8 @@ use Rattle.queue.specs.Answers.{Push}
 use Rattle.queue.specs.Rules.{pushed}
 use Rattle.queue.specs.Stored.{entries, WellFormed, Holds}
 use Rattle.scheduler.specs.declared.scheduler.QoSScheduler.{QoSScheduler}
-use Rattle.scheduler.specs.State.{task, ofBand, withBand, queue, holder}
-use Rattle.scheduler.specs.Accepted.{Each}
+use Rattle.rules.specs.State.{task, ofBand, withBand, queue, holder}
+use Rattle.rules.specs.Accepted.{Each}
 use Rattle.scheduler.specs.Scheduler.{queuesOf, abs, Whole, Valid, Hold}
 
 -- ---- reading

@@ -6,16 +6,16 @@ use mathlib.Core.List.{List, [], _∷_, _++_, map}
 use Prim.Native.Nat.{ℕ, _<_}
 use Rattle.records.specs.declared.state.ThreadState.the-variants.{Ready}
 use Rattle.records.specs.Band.{slice}
-use Rattle.scheduler.specs.declared.answer.Answer.{Answer}
-use Rattle.scheduler.specs.declared.call.Call.{Call}
+use Rattle.rules.specs.declared.answer.Answer.{Answer}
+use Rattle.rules.specs.declared.call.Call.{Call}
 use Rattle.scheduler.specs.declared.scheduler.QoSScheduler.{QoSScheduler}
 use Rattle.scheduler.specs.declared.scheduler.Reply.{Reply}
-use Rattle.scheduler.specs.State.{State, task, queue}
-use Rattle.scheduler.specs.Outcome.{Outcome}
-use Rattle.scheduler.specs.Step.{step, run}
-use Rattle.scheduler.specs.Took.{Carries}
-use Rattle.scheduler.specs.Stretch.{Event, breaks, picks, stretch, ahead}
-use Rattle.scheduler.specs.Demand3.{Waiting}
+use Rattle.rules.specs.State.{State, task, queue}
+use Rattle.rules.specs.Outcome.{Outcome}
+use Rattle.rules.specs.Step.{step, run}
+use Rattle.rules.specs.Took.{Carries}
+use Rattle.rules.specs.Stretch.{Event, breaks, picks, stretch, ahead}
+use Rattle.rules.specs.Demand3.{Waiting}
 use Rattle.scheduler.specs.Scheduler.{abs, Valid, Meets, MeetsLent}
 
 -- one call, and what the code gave back

@@ -8,24 +8,24 @@ use Rattle.records.specs.declared.ids.SlotOption.{SlotOption}
 use Rattle.records.specs.declared.ids.SlotOption.the-variants as slot
 use Rattle.queue.specs.declared.BandQueue.{BandQueue}
 use Rattle.queue.specs.Stored.{entries, WellFormed}
-use Rattle.scheduler.specs.declared.answer.Answer.{Answer}
-use Rattle.scheduler.specs.declared.call.Call.{Call}
+use Rattle.rules.specs.declared.answer.Answer.{Answer}
+use Rattle.rules.specs.declared.call.Call.{Call}
 use Rattle.scheduler.specs.declared.scheduler.QoSScheduler.{QoSScheduler}
 use Rattle.scheduler.specs.declared.scheduler.Reply.{Reply}
-use Rattle.scheduler.specs.declared.answer.ContextSwitchTarget.{ContextSwitchTarget}
-use Rattle.scheduler.specs.declared.answer.ContextSwitchTarget.the-variants.{Task, Idle}
-use Rattle.scheduler.specs.declared.answer.PickOption.the-variants as pick
-use Rattle.scheduler.specs.declared.answer.PlanOption.the-variants as plan
-use Rattle.scheduler.specs.declared.answer.Value.{Value}
-use Rattle.scheduler.specs.declared.answer.Value.the-variants as value
+use Rattle.rules.specs.declared.answer.ContextSwitchTarget.{ContextSwitchTarget}
+use Rattle.rules.specs.declared.answer.ContextSwitchTarget.the-variants.{Task, Idle}
+use Rattle.rules.specs.declared.answer.PickOption.the-variants as pick
+use Rattle.rules.specs.declared.answer.PlanOption.the-variants as plan
+use Rattle.rules.specs.declared.answer.Value.{Value}
+use Rattle.rules.specs.declared.answer.Value.the-variants as value
 use Rattle.scheduler.specs.declared.picking.Form.{Form}
 use Rattle.scheduler.specs.declared.picking.Form.the-variants as form
-use Rattle.scheduler.specs.State.{State, Queues, newState}
-use Rattle.scheduler.specs.Outcome.{Outcome, Chosen, answered, refusal}
-use Rattle.scheduler.specs.Accepted.{Accepted, Each}
-use Rattle.scheduler.specs.Picking.{answerSlot}
-use Rattle.scheduler.specs.Ticking.{planTo, answerPlan}
-use Rattle.scheduler.specs.Step.{step}
+use Rattle.rules.specs.State.{State, Queues, newState}
+use Rattle.rules.specs.Outcome.{Outcome, Chosen, answered, refusal}
+use Rattle.rules.specs.Accepted.{Accepted, Each}
+use Rattle.rules.specs.Picking.{answerSlot}
+use Rattle.rules.specs.Ticking.{planTo, answerPlan}
+use Rattle.rules.specs.Step.{step}
 
 -- "three queues, one a band, held together as one array": a band's queue stands at the band's code
 unfoldable pub queuesOf : List BandQueue → Queues

@@ -1,11 +1,11 @@
 // Block and tick on a lent state, which they change. The method by value does the call; its answer is returned, and the state
 // that it gives back is stored behind the reference.
 ghost use Rattle.scheduler.specs.Scheduler.{Valid, MeetsLent};
-use crate::answer::Answer;
-use crate::call::Call;
 use crate::scheduler::QoSScheduler;
 use crate::scheduler::Reply;
 use records::Slot;
+use rules::Answer;
+use rules::Call;
 
 impl QoSScheduler {
     // Block, as `block_task` does it. Refused as there, and then the lent state is as it was.

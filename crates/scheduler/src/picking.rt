@@ -2,17 +2,10 @@
 // plan to switch.
 ghost use mathlib.Core.Path.{_≡_};
 ghost use Prim.Native.Nat.{_<_};
-ghost use Rattle.scheduler.specs.Picking.{ruleP};
+ghost use Rattle.rules.specs.Picking.{ruleP};
 ghost use Rattle.scheduler.specs.Scheduler.{Valid, Meets, Gives, abs, answerIn, whoRuns, switchTo};
-ghost use Rattle.scheduler.specs.Ticking.{same};
-use crate::answer::Answer;
-use crate::answer::ContextSwitchPlan;
-use crate::answer::ContextSwitchTarget;
-use crate::answer::Pick;
-use crate::answer::PickOption;
-use crate::answer::PlanOption;
-use crate::answer::Value;
-use crate::call::Call;
+ghost use Rattle.rules.specs.Ticking.{same};
+use crate::answer::done;
 use crate::scheduler::NO_HOLDER;
 use crate::scheduler::QoSScheduler;
 use crate::scheduler::Reply;
@@ -20,6 +13,13 @@ use records::BAND_COUNT;
 use records::MAX_CPUS;
 use records::SlotOption;
 use records::mask_permits;
+use rules::Call;
+use rules::ContextSwitchPlan;
+use rules::ContextSwitchTarget;
+use rules::Pick;
+use rules::PickOption;
+use rules::PlanOption;
+use rules::Value;
 
 // How an answer tells who is to run on a core.
 pub(crate) enum Form {
@@ -80,7 +80,7 @@ impl QoSScheduler {
                         let pick = PickOption::Some(Pick { slot, band: qos });
                         let value = who_runs(form, previous, entry, task.cr3);
                         return Reply {
-                            answer: Answer::done(pick, value),
+                            answer: done(pick, value),
                             state: self,
                         };
                     }
@@ -91,7 +91,7 @@ impl QoSScheduler {
         self.current[core] = NO_HOLDER;
         let value = who_runs(form, previous, SlotOption::None, 0);
         Reply {
-            answer: Answer::done(PickOption::None, value),
+            answer: done(PickOption::None, value),
             state: self,
         }
     }

@@ -1,9 +1,7 @@
 // The queries: they change nothing and pick nobody.
-ghost use Rattle.scheduler.specs.Queries.{canRunOnCore, hasTid, taskIndexForTid, taskAt, currentTaskOnCpu, coreOf};
+ghost use Rattle.rules.specs.Queries.{canRunOnCore, hasTid, taskIndexForTid, taskAt, currentTaskOnCpu, coreOf};
 ghost use Rattle.scheduler.specs.Scheduler.{Valid, abs};
 ghost use mathlib.Core.Path.{_≡_};
-use crate::answer::CoreOption;
-use crate::answer::TaskOption;
 use crate::scheduler::QoSScheduler;
 use crate::scheduler::holder_of;
 use crate::waking::core_holding;
@@ -14,6 +12,8 @@ use records::SlotOption;
 use records::TaskControlBlock;
 use records::Tid;
 use records::mask_permits;
+use rules::CoreOption;
+use rules::TaskOption;
 
 impl QoSScheduler {
     // Whether the slot's mask permits the core, taken modulo 64; no for a slot of 64 and above.

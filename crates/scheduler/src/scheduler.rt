@@ -1,11 +1,9 @@
 // The scheduler's state, by value: its parts, the new one, and `apply`, which does any call.
 ghost use mathlib.Core.Path.{_≡_};
 ghost use Rattle.scheduler.specs.Scheduler.{Valid, IsNew, Meets, toldBy, refusedBy};
-ghost use Rattle.scheduler.specs.State.{holderIn};
-use crate::answer::Answer;
-use crate::answer::PickOption;
-use crate::answer::Value;
-use crate::call::Call;
+ghost use Rattle.rules.specs.State.{holderIn};
+use crate::answer::done;
+use crate::answer::refused;
 use crate::picking::Form;
 use queue::BandQueue;
 use records::BAND_COUNT;
@@ -15,6 +13,10 @@ use records::SchedError;
 use records::Slot;
 use records::SlotOption;
 use records::TaskControlBlock;
+use rules::Answer;
+use rules::Call;
+use rules::PickOption;
+use rules::Value;
 
 // What stands for none in a core's holder.
 pub const NO_HOLDER: u8 = 255;
@@ -102,7 +104,7 @@ impl QoSScheduler {
         ensures { λ r. ⌜ r ≡ toldBy self value ⌝ }
     {
         Reply {
-            answer: Answer::done(PickOption::None, value),
+            answer: done(PickOption::None, value),
             state: self,
         }
     }
@@ -112,7 +114,7 @@ impl QoSScheduler {
         ensures { λ r. ⌜ r ≡ refusedBy self error ⌝ }
     {
         Reply {
-            answer: Answer::refused(error),
+            answer: refused(error),
             state: self,
         }
     }

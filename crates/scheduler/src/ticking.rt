@@ -1,13 +1,9 @@
 // Tick, yield, handoff and plan.
 ghost use Rattle.scheduler.specs.Scheduler.{Valid, Meets, Gives, abs, answerIn};
-ghost use Rattle.scheduler.specs.State.{holderOf};
-ghost use Rattle.scheduler.specs.Ticking.{ticked, waitsBefore};
+ghost use Rattle.rules.specs.State.{holderOf};
+ghost use Rattle.rules.specs.Ticking.{ticked, waitsBefore};
 ghost use mathlib.Core.Path.{_≡_};
-use crate::answer::Answer;
-use crate::answer::PickOption;
-use crate::answer::PlanOption;
-use crate::answer::Value;
-use crate::call::Call;
+use crate::answer::done;
 use crate::picking::Form;
 use crate::picking::who_runs;
 use crate::scheduler::NO_HOLDER;
@@ -20,6 +16,10 @@ use records::SchedError;
 use records::SlotOption;
 use records::ThreadState;
 use records::mask_permits;
+use rules::Call;
+use rules::PickOption;
+use rules::PlanOption;
+use rules::Value;
 
 impl QoSScheduler {
     // A tick of core 0.
@@ -68,7 +68,7 @@ impl QoSScheduler {
             self.tasks[index] = task.with_consumed(charged as u32);
             let value = who_runs(form, previous, previous, task.cr3);
             return Reply {
-                answer: Answer::done(PickOption::None, value),
+                answer: done(PickOption::None, value),
                 state: self,
             };
         }

@@ -1,15 +1,12 @@
 // Waiting and waking: create, affinity, terminate, block, wake and enqueue.
 ghost use Rattle.queue.specs.Rules.{without};
 ghost use Rattle.scheduler.specs.Scheduler.{Valid, Meets, Whole, Hold, queuesOf};
-ghost use Rattle.scheduler.specs.State.{eachQueue, firstPlace};
-ghost use Rattle.scheduler.specs.Waking.{released};
+ghost use Rattle.rules.specs.State.{eachQueue, firstPlace};
+ghost use Rattle.rules.specs.Waking.{released};
 ghost use mathlib.Core.Path.{_≡_};
 ghost use mathlib.Core.List.{map};
 ghost use lib.Dec.{eqb};
-use crate::answer::Answer;
-use crate::answer::PickOption;
-use crate::answer::Value;
-use crate::call::Call;
+use crate::answer::done;
 use crate::scheduler::NO_HOLDER;
 use crate::scheduler::QoSScheduler;
 use crate::scheduler::Reply;
@@ -24,6 +21,9 @@ use records::SlotOption;
 use records::TaskControlBlock;
 use records::ThreadState;
 use records::Tid;
+use rules::Call;
+use rules::PickOption;
+use rules::Value;
 
 impl QoSScheduler {
     // A task in the kernel's own address space: cr3 and rsp0 are 0.
@@ -51,7 +51,7 @@ impl QoSScheduler {
             if !self.tasks[free].in_use {
                 self.tasks[free] = TaskControlBlock::created(tid, qos, context_handle, cr3, rsp0);
                 return Reply {
-                    answer: Answer::done(
+                    answer: done(
                         PickOption::None,
                         Value::Slot(SlotOption::Some(Slot(free))),
                     ),
@@ -76,7 +76,7 @@ impl QoSScheduler {
         let task = self.tasks[index];
         self.tasks[index] = task.with_affinity(mask);
         Reply {
-            answer: Answer::done(PickOption::None, Value::Nothing),
+            answer: done(PickOption::None, Value::Nothing),
             state: self,
         }
     }
@@ -96,7 +96,7 @@ impl QoSScheduler {
         self.queues = out_of_queues(self.queues, slot);
         self.current = out_of_holders(self.current, slot);
         Reply {
-            answer: Answer::done(PickOption::None, Value::Nothing),
+            answer: done(PickOption::None, Value::Nothing),
             state: self,
         }
     }
@@ -123,7 +123,7 @@ impl QoSScheduler {
         self.queues = out_of_queues(self.queues, slot);
         self.tasks[index] = task.blocked();
         Reply {
-            answer: Answer::done(PickOption::None, Value::Nothing),
+            answer: done(PickOption::None, Value::Nothing),
             state: self,
         }
     }
@@ -151,7 +151,7 @@ impl QoSScheduler {
         }
         self.tasks[index] = task.with_state(ThreadState::Running);
         Reply {
-            answer: Answer::done(PickOption::None, Value::Nothing),
+            answer: done(PickOption::None, Value::Nothing),
             state: self,
         }
     }
@@ -184,7 +184,7 @@ impl QoSScheduler {
         self.queues[band] = queue;
         self.tasks[index] = task.with_state(ThreadState::Ready);
         Reply {
-            answer: Answer::done(PickOption::None, Value::Nothing),
+            answer: done(PickOption::None, Value::Nothing),
             state: self,
         }
     }

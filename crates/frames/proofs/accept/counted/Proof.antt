@@ -3,7 +3,7 @@ use mathlib.Core.Path.{_≡_}
 use Prim.Native.Nat.{_-_}
 use native.Mathlib.Omega.{arith}
 use lib.ListN.{length}
-use Rattle.scheduler.specs.State.{queue}
+use Rattle.rules.specs.State.{queue}
 use Rattle.frames.specs.Image.{stateAt}
 use Rattle.frames.proofs.Counting.{Counting, counting-begin, counting-on, counting-past, counting-ended, counting-room}
 use Rattle.frames.proofs.Accepting.{queue-long, queue-entry}

@@ -2,7 +2,7 @@
 -- fits and the slot stands there once or is not Ready. Assumes nothing.
 use Prim.Native.Nat.{_-_}
 use Rattle.records.specs.declared.band.QoSClass.the-variants.{UserInteractive, RealTimeIO, Background}
-use Rattle.scheduler.specs.Accepted.{standsOnce}
+use Rattle.rules.specs.Accepted.{standsOnce}
 use Rattle.frames.specs.Image.{stateAt}
 use Rattle.frames.specs.AcceptedImage.{slotFits}
 use Rattle.frames.proofs.Passing.{Passing, passing-begin, passing-on, first-failed, second-failed, both-ended}

@@ -1,6 +1,6 @@
 -- `call_in` meets its contract: each arm is its entry in the table of calls, and past them there is none. Assumes nothing.
 use mathlib.Core.Path.{refl}
-use Rattle.scheduler.specs.declared.call.Call.the-variants.{Affinity, Terminate, Block, Wake, Enqueue, Schedule, Tick, Yield, Handoff, Plan, CanRunOnCore, TaskIndexForTid, Task, CurrentTaskOnCpu, Holder}
+use Rattle.rules.specs.declared.call.Call.the-variants.{Affinity, Terminate, Block, Wake, Enqueue, Schedule, Tick, Yield, Handoff, Plan, CanRunOnCore, TaskIndexForTid, Task, CurrentTaskOnCpu, Holder}
 use Rattle.frames.specs.declared.decode.CallOption.the-variants.{Some}
 use Rattle.frames.proofs.Decodings.{entry, no-entry, none-below}
 use borrow.Author.Needs.{needs}

@@ -1,7 +1,7 @@
 -- `create_in` meets its contract: the band that the byte stands for decides. Assumes nothing.
 use mathlib.Core.Path.{sym, ap, _∙_}
 use Rattle.records.specs.Band.{codedBand}
-use Rattle.scheduler.specs.declared.call.Call.the-variants.{Create}
+use Rattle.rules.specs.declared.call.Call.the-variants.{Create}
 use Rattle.frames.specs.declared.decode.CallOption.the-variants.{Some}
 use Rattle.frames.proofs.Decodings.{create-as}
 use borrow.Author.Needs.{needs}

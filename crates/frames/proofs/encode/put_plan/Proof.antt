@@ -1,7 +1,7 @@
 -- `put_plan` meets its contract: each arm puts its kind. Assumes nothing.
 use mathlib.Core.Path.{refl, ap}
-use Rattle.scheduler.specs.declared.answer.Value.the-variants as value
-use Rattle.scheduler.specs.declared.answer.PlanOption.the-variants as plan
+use Rattle.rules.specs.declared.answer.Value.the-variants as value
+use Rattle.rules.specs.declared.answer.PlanOption.the-variants as plan
 use Rattle.frames.specs.Answer.{valueBytes}
 use Rattle.frames.proofs.Encodings.{value-as, byte-put}
 use borrow.Author.Needs.{needs}

@@ -1,6 +1,6 @@
 -- `put_value` meets its contract: each arm puts its kind. Assumes nothing.
 use mathlib.Core.Path.{refl}
-use Rattle.scheduler.specs.declared.answer.Value.the-variants as value
+use Rattle.rules.specs.declared.answer.Value.the-variants as value
 use Rattle.frames.specs.Answer.{valueBytes}
 use Rattle.frames.proofs.Runs.{run-end}
 use Rattle.frames.proofs.Encodings.{value-as, value-put, byte-put}

@@ -2,9 +2,9 @@
 use mathlib.Core.Path.{_≡_, refl, sym, ap, _∙_}
 use Prim.Native.Nat.{ℕ}
 use borrow.Author.Needs.{needs}
-use Rattle.scheduler.specs.declared.call.Call.{Call}
-use Rattle.scheduler.specs.State.{State}
-use Rattle.scheduler.specs.Touched.{namedSlot}
+use Rattle.rules.specs.declared.call.Call.{Call}
+use Rattle.rules.specs.State.{State}
+use Rattle.rules.specs.Touched.{namedSlot}
 use Rattle.frames.proofs.touched.named_slot.Statement.{statement}
 use Rattle.frames.proofs.touched.named_slot.Tie as tie
 

@@ -35,7 +35,7 @@ use denote.Exit.{yes}
 use Rattle.records.specs.declared.ids.Slot.{Slot}
 use Rattle.records.proofs.ids.Slot as L
 use Rattle.records.proofs.ids.Slot.Laws as L′
-use Rattle.scheduler.specs.declared.call.Call.the-variants as call
+use Rattle.rules.specs.declared.call.Call.the-variants as call
 use Rattle.scheduler.specs.declared.scheduler.QoSScheduler.{QoSScheduler}
 use Rattle.scheduler.specs.Scheduler.{Valid, MeetsLent}
 use Rattle.scheduler.proofs.MachineValues.{OfTy, state-typed, answer-typed, slotVals, tickVals, tickOwns, tick-owned}
@@ -43,8 +43,8 @@ use Rattle.scheduler.proofs.Lending.{loanTy, lendCode, lends}
 use Rattle.scheduler.proofs.Loans.{BlockLent, TickLent, block-loan, tick-loan}
 use Rattle.scheduler.proofs.scheduler.QoSScheduler as S
 use Rattle.scheduler.proofs.scheduler.QoSScheduler.Laws as S′
-use Rattle.scheduler.proofs.answer.Answer as N
-use Rattle.scheduler.proofs.answer.Answer.Laws as N′
+use Rattle.rules.proofs.answer.Answer as N
+use Rattle.rules.proofs.answer.Answer.Laws as N′
 use Rattle.scheduler.proofs.scheduler.QoSScheduler.block_task_lent.Symbol as block-def
 use Rattle.scheduler.proofs.scheduler.QoSScheduler.block_task_lent.Symbol.{name as #block}
 use Rattle.scheduler.proofs.scheduler.QoSScheduler.block_task_lent.Met as block-thm

@@ -3,7 +3,7 @@
 use mathlib.Core.Path.{_≡_}
 use Prim.Native.Nat.{_-_}
 use borrow.Author.Needs.{needs}
-use Rattle.scheduler.specs.Waking.{released}
+use Rattle.rules.specs.Waking.{released}
 use Rattle.scheduler.proofs.Removals.{changed, changed-begin, changed-on, changed-ended}
 use Rattle.scheduler.proofs.waking.out_of_holders.Statement.{statement}
 use Rattle.scheduler.proofs.waking.out_of_holders.Tie as tie

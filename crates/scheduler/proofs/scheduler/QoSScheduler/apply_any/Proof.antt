@@ -1,6 +1,6 @@
 -- `QoSScheduler::apply_any` meets its contract: each arm gives what the method for the call ensures, or tells what the query ensures. Assumes nothing.
 use mathlib.Core.Path.{refl, ap}
-use Rattle.scheduler.specs.declared.answer.Value.the-variants as value
+use Rattle.rules.specs.declared.answer.Value.the-variants as value
 use Rattle.scheduler.proofs.Promises.{meets-call, meets-query}
 use borrow.Author.Needs.{needs}
 use Rattle.scheduler.proofs.scheduler.QoSScheduler.apply_any.Statement.{statement}

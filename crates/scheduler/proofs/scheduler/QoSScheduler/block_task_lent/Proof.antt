@@ -34,12 +34,12 @@ use denote.Signature.{plain}
 use Rattle.records.specs.declared.ids.Slot.{Slot}
 use Rattle.records.proofs.ids.Slot as L
 use Rattle.records.proofs.ids.Slot.Laws as L′
-use Rattle.scheduler.specs.declared.call.Call.the-variants as call
+use Rattle.rules.specs.declared.call.Call.the-variants as call
 use Rattle.scheduler.specs.declared.scheduler.QoSScheduler.{QoSScheduler}
 use Rattle.scheduler.specs.declared.scheduler.Reply.{Reply}
 use Rattle.scheduler.specs.Scheduler.{Valid, Meets}
 use Rattle.scheduler.proofs.scheduler.QoSScheduler as S
-use Rattle.scheduler.proofs.answer.Answer as N
+use Rattle.rules.proofs.answer.Answer as N
 use Rattle.scheduler.proofs.MachineValues.{slotVals, slotOwns, slot-owned}
 use Rattle.scheduler.proofs.OnLent.{Borrow, Method, closedAt, asks, leaves, lent-call}
 use Rattle.scheduler.proofs.scheduler.QoSScheduler.block_task as block-task

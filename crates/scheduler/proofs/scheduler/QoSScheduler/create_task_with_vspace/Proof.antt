@@ -4,7 +4,7 @@ use Prim.Native.Nat.{_-_, _≤_}
 use native.Mathlib.Omega.{arith}
 use borrow.Author.Needs.{needs}
 use Rattle.scheduler.specs.Scheduler.{abs, Valid}
-use Rattle.scheduler.specs.Waking.{freeSlot}
+use Rattle.rules.specs.Waking.{freeSlot}
 use Rattle.scheduler.proofs.OnSlots.{create-on, create-full, create-done}
 use Rattle.scheduler.proofs.Promises.{meets-from}
 use Rattle.scheduler.proofs.scheduler.QoSScheduler.create_task_with_vspace.Statement.{statement}

@@ -32,12 +32,12 @@ use denote.Triple.Table.{entered, cited}
 use denote.Triple.Walked.{needs, Stays, stay-ref, stay-none, walkOf, goes-ref, goes-none, ends-at, walked, walk-meets}
 use denote.Exit.{yes}
 use denote.Signature.{plain}
-use Rattle.scheduler.specs.declared.call.Call.the-variants as call
+use Rattle.rules.specs.declared.call.Call.the-variants as call
 use Rattle.scheduler.specs.declared.scheduler.QoSScheduler.{QoSScheduler}
 use Rattle.scheduler.specs.declared.scheduler.Reply.{Reply}
 use Rattle.scheduler.specs.Scheduler.{Valid, Meets}
 use Rattle.scheduler.proofs.scheduler.QoSScheduler as S
-use Rattle.scheduler.proofs.answer.Answer as N
+use Rattle.rules.proofs.answer.Answer as N
 use Rattle.scheduler.proofs.MachineValues.{tickVals, tickOwns, tick-owned}
 use Rattle.scheduler.proofs.OnLent.{Borrow, Method, closedAt, asks, leaves, lent-call}
 use Rattle.scheduler.proofs.scheduler.QoSScheduler.on_timer_tick_on_cpu as on-timer-tick-on-cpu

@@ -4,7 +4,7 @@ use Prim.Native.Nat.{_+_, _-_, _*_}
 use native.Mathlib.Omega.{arith}
 use borrow.Author.Needs.{needs}
 use Rattle.scheduler.specs.declared.scheduler.QoSScheduler.{QoSScheduler}
-use Rattle.scheduler.specs.Picking.{ruleP}
+use Rattle.rules.specs.Picking.{ruleP}
 use Rattle.scheduler.specs.Scheduler.{abs, Valid}
 use Rattle.scheduler.proofs.OnCores.{on-to-band, place-low, entry-low, on-to-place, pick-found, pick-none}
 use Rattle.scheduler.proofs.Promises.{gives-as}

@@ -3,8 +3,8 @@ use mathlib.Core.Path.{sym, _∙_}
 use Prim.Native.Nat.{_-_, _≤_}
 use native.Mathlib.Omega.{arith}
 use borrow.Author.Needs.{needs}
-use Rattle.scheduler.specs.State.{firstPlace}
-use Rattle.scheduler.specs.Queries.{hasTid}
+use Rattle.rules.specs.State.{firstPlace}
+use Rattle.rules.specs.Queries.{hasTid}
 use Rattle.scheduler.proofs.Answers.{tid-found, tid-missing}
 use Rattle.scheduler.proofs.Searches.{search-on}
 use Rattle.scheduler.proofs.Stored.{slots}

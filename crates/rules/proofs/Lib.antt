@@ -1,0 +1,32 @@
+-- Laws about the definitions of specs/. What the rules promise:
+--
+--   KCases      K1 to K11, one table                      Accepts     the test of acceptance says what the conditions say
+--   Calls       every call keeps acceptance; a pick carried is P's; no queue is full for a slot to be queued
+--   Refusals    a refusal changes nothing; number 2 is never answered
+--   Picks       rule P                                    Waiting     demand 3
+--   Stretches   the stretch is as long as can be          Worked      one stretch, computed
+--   Asked       slots and cores of 64 and above, in queries
+--   Elsewhere   which records a call leaves as they were
+--
+-- and what any crate may use: Says pairs each test with the fact that it tests, Invariant is acceptance as proofs carry it, Moves are the changes
+-- that calls are made of, and Effects what each call does.
+--
+-- How these are shown: Lists and Parts are about lists and stores, Course is every call followed once, Turns one call as X sees it.
+pub mod KCases
+pub mod Accepts
+pub mod Calls
+pub mod Refusals
+pub mod Picks
+pub mod Waiting
+pub mod Stretches
+pub mod Worked
+pub mod Asked
+pub mod Elsewhere
+pub mod Says
+pub mod Invariant
+pub mod Moves
+pub mod Effects
+mod Lists
+mod Parts
+mod Course
+mod Turns
