@@ -13,8 +13,9 @@ use Rattle.frames.specs.declared.stream.Fed.{Fed}
 use Rattle.frames.specs.declared.stream.Stream.{Stream}
 use Rattle.frames.specs.Lines.{lines, answersTo}
 use Rattle.frames.specs.Stream.{Begins, ValidStream, Feeds}
-use Rattle.frames.specs.TextClaim.{Feeding, NextOf, Feedings, streamAfter, usedBy, textOf, Finished}
-use Rattle.frames.proofs.Streams.{feeds-in, feeds-all, feedings-append, streamAfter-append, usedBy-append, finished-append, feedings-answered}
+use Rattle.claims.specs.TextClaim.{Feeding, NextOf, Feedings, streamAfter, usedBy, textOf, Finished}
+use Rattle.frames.proofs.Streams.{feeds-in, feeds-all}
+use Rattle.claims.proofs.Feedings.{feedings-append, streamAfter-append, usedBy-append, finished-append, feedings-answered}
 use Rattle.calls.specs.declared.Progress.{Progress}
 use Rattle.calls.specs.Program.{FeedsBlock, BlockFed, FeedsAll, inputOf}
 

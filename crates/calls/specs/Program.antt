@@ -6,7 +6,7 @@ use Prim.Native.Nat.{ℕ}
 use lib.ListN.{length}
 use Rattle.frames.specs.declared.stream.Stream.{Stream}
 use Rattle.frames.specs.Stream.{ValidStream}
-use Rattle.frames.specs.TextClaim.{Feeding, Feedings, streamAfter, usedBy, Finished}
+use Rattle.claims.specs.TextClaim.{Feeding, Feedings, streamAfter, usedBy, Finished}
 use Rattle.calls.specs.declared.Progress.{Progress}
 
 -- The feedings are those of the block and of whatever follows it; nothing follows the last. The stream is what they hand back. Where all answers were

@@ -51,7 +51,7 @@ use Rattle.frames.specs.Fits.{FitsCall, FitsAnswer}
 use Rattle.frames.specs.Image.{FitsImage}
 use Rattle.frames.proofs.AcceptedImages.{holder-small}
 use Rattle.frames.proofs.Images.{flagNumber-small}
-use Rattle.frames.proofs.Reached.{Bounded, record-of, fits-bounded, call-bounded}
+use Rattle.frames.proofs.StatesFit.{Bounded, record-of, fits-bounded, call-bounded}
 use Rattle.frames.proofs.Sizes.{length-answerBytes, answer-fits}
 use Rattle.frames.proofs.Stores.{sets-read}
 use Rattle.frames.proofs.Widths.{numbersAt-written}

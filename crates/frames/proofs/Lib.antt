@@ -7,18 +7,14 @@
 --   Digits          hexadecimal digits: written and read back
 --   Sizes           how many bytes an answer has
 --   Refused         lines that are no frame, those longer than any frame among them
---   Streams         text in blocks: nothing is lost, nothing answered twice, however it is cut
---   Example         document 01's five lines, computed
---   Figures         document 01's numbers, each beside the definition that has it
+--   Streams         text in blocks: what is held of a line, how much is used and written
 --   Images          a state's image: written and read back
 --   AcceptedImages  the test of acceptance; accepted images and accepted states
 --   Typed           a scheduler's numbers fit the fields of an image, by their types
---   Reached         every state that calls whose numbers fit reach from new, or from an accepted image, has an image
+--   Statuses        what the status of an image says
+--   StatesFit       a call whose numbers fit makes of a state that has an image one that has
 --   AnswersFit      in an accepted state whose numbers fit, no number of an answer is too large for its field
---   Demand3         demand 3, whole: from new and from an accepted image
---   Follows         requests as the calls of a history
---   TextHistories   demand 3 for lines of text
---   Hosts           the host entry: what is refused, and demand 3 for a host on one image
+--   Hosts           the host entry: what is refused, and what is done
 --
 -- How the functions are shown to meet their contracts: Runs is about numbers stored one behind the other, Encodings puts an answer together, Decodings
 -- is the table of calls, Cuts the first line of a text, Tellings what one line is told, ByLine a block taken line by line, LinePuts an answer stored as
@@ -34,16 +30,12 @@ pub mod Digits
 pub mod Sizes
 pub mod Refused
 pub mod Streams
-pub mod Example
-pub mod Figures
 pub mod Images
 pub mod AcceptedImages
 pub mod Typed
-pub mod Reached
+pub mod Statuses
+pub mod StatesFit
 pub mod AnswersFit
-pub mod Demand3
-pub mod Follows
-pub mod TextHistories
 pub mod Hosts
 mod Runs
 mod Encodings

@@ -1,13 +1,10 @@
--- The reader's parts: records filled in one by one, a queue from its places, the holders, and the scheduler that they make; and which bytes the
--- reader refuses. Assumes nothing.
+-- The reader's parts: records filled in one by one, a queue from its places, the holders, and the scheduler that they make. Which bytes the
+-- reader refuses is Statuses' matter. Assumes nothing.
 use mathlib.Core.Path.{_≡_, refl, sym, ap, subst, _∙_}
-use mathlib.Core.Bool.{Bool, true, false, cond, not}
 use mathlib.Core.List.{List, [], _∷_, _++_}
 use Prim.Native.Nat.{ℕ, _+_, _≤_, _<_}
 use native.Mathlib.Omega.{arith}
 use native.Mathlib.Numerals.{add-one}
-use borrow.Author.Tests.{eq-eqb, ne-eqb, not-true, not-false}
-use lib.Dec.{eqb}
 use lib.ListN.{length, getD, take, drop, set, length-set}
 use lib.Seq.{sets, take-all, take-suc, take-suc-set, drop-at}
 use Rattle.records.specs.declared.band.QoSClass.{QoSClass}
@@ -15,7 +12,6 @@ use Rattle.records.specs.declared.band.QoSClass.the-variants.{UserInteractive, 
 use Rattle.records.specs.declared.task.TaskControlBlock.{TaskControlBlock}
 use Rattle.records.specs.Task.{emptyRecord}
 use Rattle.records.proofs.Bands.{bandCode-small}
-use Rattle.records.proofs.Cases.{split}
 use Rattle.queue.specs.declared.BandQueue.{BandQueue}
 use Rattle.queue.specs.Stored.{Holds}
 use Rattle.scheduler.specs.declared.scheduler.QoSScheduler.{QoSScheduler}
@@ -25,12 +21,11 @@ use Rattle.rules.specs.State.{queue}
 use Rattle.frames.specs.declared.read.ImageStatus.{ImageStatus}
 use Rattle.frames.specs.declared.read.ImageStatus.the-variants as read
 use Rattle.frames.specs.declared.refusal.HostError.{HostError}
-use Rattle.frames.specs.declared.refusal.HostError.the-variants.{WrongLength, NotAccepted}
-use Rattle.frames.specs.AcceptedImage.{AcceptedImage, acceptsImage}
+use Rattle.frames.specs.AcceptedImage.{AcceptedImage}
 use Rattle.frames.specs.Bytes.{part, IsNumber}
 use Rattle.frames.specs.Host.{imageStatus, readState, ReadAs, ReadsImage}
 use Rattle.frames.specs.Image.{holdersPlace, microsPlace, imageLength, queuePlace, recordIn, recordAt, queueAt, lengthByte, stateAt}
-use Rattle.frames.proofs.AcceptedImages.{accepts-image, accepted-state}
+use Rattle.frames.proofs.AcceptedImages.{accepted-state}
 use Rattle.frames.proofs.Images.{length-tasks, task-read, queue-read}
 use Rattle.frames.proofs.Stores.{sets-all}
 use Rattle.frames.proofs.Widths.{length-part, part-add}
@@ -130,35 +125,6 @@ state-made {image} a {slot} {s} r h =
       micros = r .micros .is i;
     } in
     record { valid = record { whole = r .queues .whole; accepted = subst Accepted (sym is) (accepted-state image a) }; state-is = is }
-
--- ---- which bytes are refused
-
-module _ (image : List ℕ) where
-  pub status-length : (length image ≡ imageLength → ⊥) → read.Refused WrongLength ≡ imageStatus image
-  unfolding imageStatus
-  status-length other = sym (rw (ne-eqb (length image) imageLength other))
-
-  pub status-refused : {r : Bool} → length image ≡ imageLength → r ≡ acceptsImage image → not r ≡ true → read.Refused NotAccepted ≡ imageStatus image
-  unfolding imageStatus
-  status-refused {r} long is h = sym (rw (eq-eqb (length image) imageLength long, sym is ∙ not-true r h))
-
-  pub status-accepted : {r : Bool} → length image ≡ imageLength → r ≡ acceptsImage image → not r ≡ false → read.Accepted ≡ imageStatus image
-  unfolding imageStatus
-  status-accepted {r} long is h = sym (rw (eq-eqb (length image) imageLength long, sym is ∙ not-false r h))
-
-  -- accepted is what the conditions say
-  pub accepted-status : AcceptedImage image → imageStatus image ≡ read.Accepted
-  accepted-status a = sym (status-accepted (a .length-is) refl (ap not (accepts-image image .1 a)))
-
-  pub status-says : imageStatus image ≡ read.Accepted → AcceptedImage image
-  unfolding imageStatus
-  status-says =
-      split (λ (b : Bool). cond (not b) (read.Refused WrongLength) (cond (not (acceptsImage image)) (read.Refused NotAccepted) read.Accepted) ≡ read.Accepted → AcceptedImage image)
-      (eqb (length image) imageLength)
-      (λ _. split (λ (b : Bool). cond (not b) (read.Refused NotAccepted) read.Accepted ≡ read.Accepted → AcceptedImage image) (acceptsImage image)
-      (λ yes _. accepts-image image .0 yes)
-      (λ _ e. let never : _≡_ {A = ℕ} 0 1 = cc in absurd (omega arith)))
-      (λ _ e. let never : _≡_ {A = ℕ} 0 1 = cc in absurd (omega arith))
 
 -- ---- the reader
 

@@ -10,10 +10,6 @@
 --   Fits            calls and answers whose numbers fit their fields, and states that have an image
 --   ImageParts      what the writer of images promises, and the parts of writer and test
 --   Host            what the reader of images, a call on an image and the host entry promise
---   Start           demand 3, whole: from new and from an accepted image
---   Asked           requests as the calls of a history
---   TextClaim       demand 3 for lines of text
---   HostClaim       demand 3 for a host that calls again and again on one image
 pub mod Bytes
 pub mod Hex
 pub mod Frame
@@ -25,7 +21,3 @@ pub mod AcceptedImage
 pub mod Fits
 pub mod ImageParts
 pub mod Host
-pub mod Start
-pub mod Asked
-pub mod TextClaim
-pub mod HostClaim

@@ -5,7 +5,7 @@
 --   Refusals    a refusal changes nothing; number 2 is never answered
 --   Picks       rule P                                    Waiting     demand 3
 --   Stretches   the stretch is as long as can be          Worked      one stretch, computed
---   Asked       slots and cores of 64 and above, in queries
+--   OutOfTable  slots and cores of 64 and above, in queries
 --   Elsewhere   which records a call leaves as they were
 --
 -- and what any crate may use: Says pairs each test with the fact that it tests, Invariant is acceptance as proofs carry it, Moves are the changes
@@ -20,7 +20,7 @@ pub mod Picks
 pub mod Waiting
 pub mod Stretches
 pub mod Worked
-pub mod Asked
+pub mod OutOfTable
 pub mod Elsewhere
 pub mod Says
 pub mod Invariant

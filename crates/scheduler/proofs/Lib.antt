@@ -1,8 +1,4 @@
--- What the code's contracts promise together:
---
---   Histories   demands 2 and 3 on the code, calls on a lent state among them
---
--- and what any crate may use: Stored reads the scheduler's arrays as the state that they hold; for a caller that lends a state from a local, which
+-- What any crate may use: Stored reads the scheduler's arrays as the state that they hold; for a caller that lends a state from a local, which
 -- has to be walked by hand, Lending is one such call, Loans are block and tick as it meets them, and MachineValues has the facts about machine
 -- values that these use.
 --
@@ -10,7 +6,6 @@
 -- Holders about a core's holder; Promises makes a contract of what a method did; OnSlots, OnCores, OnTicks and OnPlans have a law for each way out
 -- of the methods, Answers for each way out of the queries and the private parts, and OnLent walks the functions on a lent state. The functions'
 -- own proofs cite these. The laws of the rules are the crate below.
-pub mod Histories
 pub mod MachineValues
 pub mod Lending
 pub mod Loans

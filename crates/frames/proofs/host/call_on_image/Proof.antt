@@ -2,7 +2,7 @@
 use mathlib.Core.Path.{sym, _∙_}
 use borrow.Author.Needs.{needs}
 use Rattle.frames.proofs.Hosting.{called-refused, called-done}
-use Rattle.frames.proofs.Readings.{status-says}
+use Rattle.frames.proofs.Statuses.{status-says}
 use Rattle.frames.proofs.host.call_on_image.Statement.{statement}
 use Rattle.frames.proofs.host.call_on_image.Tie as tie
 

@@ -1,6 +1,6 @@
 -- `check_image` meets its contract: a law for each way out. Assumes nothing.
 use borrow.Author.Needs.{needs}
-use Rattle.frames.proofs.Readings.{status-length, status-refused, status-accepted}
+use Rattle.frames.proofs.Statuses.{status-length, status-refused, status-accepted}
 use Rattle.frames.proofs.read.check_image.Statement.{statement}
 use Rattle.frames.proofs.read.check_image.Tie as tie
 

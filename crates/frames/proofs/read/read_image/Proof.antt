@@ -1,7 +1,8 @@
 -- `read_image` meets its contract: the scheduler that is read is valid since the image is accepted. Assumes nothing.
 use mathlib.Core.Path.{sym, _∙_}
 use borrow.Author.Needs.{needs}
-use Rattle.frames.proofs.Readings.{status-says, read-accepted, read-refused}
+use Rattle.frames.proofs.Readings.{read-accepted, read-refused}
+use Rattle.frames.proofs.Statuses.{status-says}
 use Rattle.frames.proofs.read.read_image.Statement.{statement}
 use Rattle.frames.proofs.read.read_image.Tie as tie
 

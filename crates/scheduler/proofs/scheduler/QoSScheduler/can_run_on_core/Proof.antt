@@ -2,7 +2,7 @@
 use mathlib.Core.Path.{sym}
 use borrow.Author.Needs.{needs}
 use Rattle.scheduler.proofs.Answers.{slot-runs}
-use Rattle.rules.proofs.Asked.{no-slot-runs}
+use Rattle.rules.proofs.OutOfTable.{no-slot-runs}
 use Rattle.scheduler.proofs.scheduler.QoSScheduler.can_run_on_core.Statement.{statement}
 use Rattle.scheduler.proofs.scheduler.QoSScheduler.can_run_on_core.Tie as tie
 

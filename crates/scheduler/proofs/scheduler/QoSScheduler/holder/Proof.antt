@@ -2,7 +2,7 @@
 use mathlib.Core.Path.{sym}
 use borrow.Author.Needs.{needs}
 use Rattle.scheduler.proofs.Answers.{no-core-holds, core-holds}
-use Rattle.rules.proofs.Asked.{no-slot-held}
+use Rattle.rules.proofs.OutOfTable.{no-slot-held}
 use Rattle.scheduler.proofs.scheduler.QoSScheduler.holder.Statement.{statement}
 use Rattle.scheduler.proofs.scheduler.QoSScheduler.holder.Tie as tie
 

@@ -2,7 +2,7 @@
 use mathlib.Core.Path.{sym}
 use borrow.Author.Needs.{needs}
 use Rattle.scheduler.proofs.Answers.{slot-record}
-use Rattle.rules.proofs.Asked.{no-slot-record}
+use Rattle.rules.proofs.OutOfTable.{no-slot-record}
 use Rattle.scheduler.proofs.scheduler.QoSScheduler.task.Statement.{statement}
 use Rattle.scheduler.proofs.scheduler.QoSScheduler.task.Tie as tie
 

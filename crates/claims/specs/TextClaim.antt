@@ -7,12 +7,12 @@ use Prim.Native.Nat.{ℕ, _+_}
 use lib.ListN.{take, drop}
 use Rattle.scheduler.specs.declared.scheduler.QoSScheduler.{QoSScheduler}
 use Rattle.rules.specs.State.{State}
 use Rattle.frames.specs.declared.stream.Fed.{Fed}
 use Rattle.frames.specs.declared.stream.Stream.{Stream}
 use Rattle.frames.specs.Answer.{answerBytes}
-use Rattle.frames.specs.Asked.{Protocol, Asks}
+use Rattle.claims.specs.Requests.{Protocol, Asks}
 use Rattle.frames.specs.Lines.{lineCall, noFrame, lineText, lines, answersTo}
 use Rattle.frames.specs.Stream.{Feeds}
 
 -- ---- a text, fed to a stream
 

@@ -4,13 +4,13 @@ use mathlib.Core.Path.{_≡_}
 use mathlib.Core.List.{List}
 use Prim.Native.Nat.{ℕ}
 use Rattle.scheduler.specs.declared.scheduler.QoSScheduler.{QoSScheduler}
-use Rattle.scheduler.specs.History.{Made, History, CodeClaim}
+use Rattle.claims.specs.History.{Made, History, CodeClaim}
 use Rattle.scheduler.specs.Scheduler.{IsNew}
 use Rattle.rules.specs.State.{State, newState}
 use Rattle.frames.specs.declared.read.ImageRead.{ImageRead}
 use Rattle.frames.specs.AcceptedImage.{AcceptedImage}
 use Rattle.frames.specs.Host.{ReadsImage}
 use Rattle.frames.specs.Image.{stateAt}
 
 -- "from the state read from an accepted image": the scheduler in what the reader made of one
 pub record ReadFrom (image : List ℕ) (s : QoSScheduler) : Type 0 where

@@ -9,22 +9,22 @@ use lib.ListN.{length}
 use lib.Seq.{sets}
 use Rattle.rules.specs.declared.answer.Answer.{Answer}
 use Rattle.scheduler.specs.declared.scheduler.QoSScheduler.{QoSScheduler}
-use Rattle.scheduler.specs.History.{Made, left}
+use Rattle.claims.specs.History.{Made, left}
 use Rattle.rules.specs.Paper.{pickNumbers}
 use Rattle.scheduler.specs.Scheduler.{abs}
 use Rattle.rules.specs.State.{State}
 use Rattle.rules.specs.Step.{run}
 use Rattle.frames.specs.declared.decode.CallOption.the-variants.{None}
 use Rattle.frames.specs.declared.refusal.HostError.{HostError}
 use Rattle.frames.specs.declared.refusal.HostError.the-variants.{WrongLength, NoFrame}
 use Rattle.frames.specs.AcceptedImage.{AcceptedImage}
 use Rattle.frames.specs.Answer.{answerBytes, pickIn}
 use Rattle.frames.specs.Bytes.{AllBytes}
 use Rattle.frames.specs.Frame.{frameCall}
 use Rattle.frames.specs.Host.{refusalReturned, answerRoom, Hosted, hostStep}
 use Rattle.frames.specs.Image.{imageOf, stateAt}
-use Rattle.frames.specs.Start.{ReadFrom}
-use Rattle.frames.specs.Asked.{Protocol, callsAmong, AskedPoint, Asks}
+use Rattle.claims.specs.Start.{ReadFrom}
+use Rattle.claims.specs.Requests.{Protocol, callsAmong, AskedPoint, Asks}
 
 -- one call: its frame, the answer buffer before, and what came back
 pub record HostCall : Type 0 where

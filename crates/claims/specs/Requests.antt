@@ -6,10 +6,10 @@ use mathlib.Core.Logic.{_⊎_}
 use Rattle.rules.specs.declared.answer.Answer.{Answer}
 use Rattle.rules.specs.declared.call.Call.{Call}
 use Rattle.scheduler.specs.declared.scheduler.QoSScheduler.{QoSScheduler}
-use Rattle.scheduler.specs.History.{Made, History, left, callsOf, CodePoint}
+use Rattle.claims.specs.History.{Made, History, left, callsOf, CodePoint}
 use Rattle.rules.specs.State.{State}
 use Rattle.frames.specs.declared.decode.CallOption.{CallOption}
 use Rattle.frames.specs.declared.decode.CallOption.the-variants.{None, Some}
 
 -- how a request is read as a call or as none, and what it is told then
 pub record Protocol (A : Type 0) : Type 1 where

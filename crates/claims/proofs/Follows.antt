@@ -7,18 +7,18 @@ use Rattle.rules.specs.declared.answer.Answer.{Answer}
 use Rattle.rules.specs.declared.call.Call.{Call}
 use Rattle.scheduler.specs.declared.scheduler.QoSScheduler.{QoSScheduler}
 use Rattle.scheduler.specs.declared.scheduler.Reply.{Reply}
-use Rattle.scheduler.specs.History.{Made, History, callsOf}
+use Rattle.claims.specs.History.{Made, History, callsOf}
 use Rattle.scheduler.specs.Scheduler.{abs, Valid, Meets}
 use Rattle.rules.specs.State.{State}
 use Rattle.rules.specs.Step.{step, run}
-use Rattle.scheduler.proofs.Histories.{a-reply}
+use Rattle.claims.proofs.Histories.{a-reply}
 use Rattle.frames.specs.declared.decode.CallOption.{CallOption}
 use Rattle.frames.specs.declared.decode.CallOption.the-variants.{None, Some}
-use Rattle.frames.specs.Asked.{Protocol, callIn, callsAmong, Follows, Asks}
+use Rattle.claims.specs.Requests.{Protocol, callIn, callsAmong, Follows, Asks}
 use Rattle.frames.specs.Host.{ReadAs}
 use Rattle.frames.specs.Lines.{said}
-use Rattle.frames.specs.Start.{Start, startState}
-use Rattle.frames.proofs.Demand3.{start-as, demand3}
+use Rattle.claims.specs.Start.{Start, startState}
+use Rattle.claims.proofs.Demand3.{start-as, demand3}
 
 -- a frame's call, if there is one, and then others
 pub run-said : (c : CallOption) (calls : List Call) (s : State) → run (callIn c ++ calls) s ≡ run calls (said c s .state)

@@ -3,19 +3,19 @@ use mathlib.Core.Path.{_≡_, refl, sym, subst, _∙_}
 use mathlib.Core.List.{List, map}
 use Prim.Native.Nat.{ℕ}
 use Rattle.scheduler.specs.declared.scheduler.QoSScheduler.{QoSScheduler}
-use Rattle.scheduler.specs.History.{MadeEither, Mixed, madeOf, CodeClaim}
+use Rattle.claims.specs.History.{MadeEither, Mixed, madeOf, CodeClaim}
 use Rattle.scheduler.specs.Scheduler.{abs, Valid}
 use Rattle.rules.specs.State.{State}
-use Rattle.scheduler.proofs.Histories.{mixed-is, code-demand3, stored}
+use Rattle.claims.proofs.Histories.{mixed-is, code-demand3, stored}
 use Rattle.frames.specs.declared.read.ImageRead.{ImageRead}
 use Rattle.frames.specs.declared.read.ImageStatus.{ImageStatus}
 use Rattle.frames.specs.declared.read.ImageStatus.the-variants as read
 use Rattle.frames.specs.AcceptedImage.{AcceptedImage}
 use Rattle.frames.specs.Host.{imageStatus, readState, ReadAs, ReadsImage}
 use Rattle.frames.specs.Image.{stateAt}
-use Rattle.frames.specs.Start.{ReadFrom, Start, fromNew, fromImage, startState, Demand3}
+use Rattle.claims.specs.Start.{ReadFrom, Start, fromNew, fromImage, startState, Demand3}
 use Rattle.frames.proofs.AcceptedImages.{accepted-state}
-use Rattle.frames.proofs.Readings.{accepted-status, status-says}
+use Rattle.frames.proofs.Statuses.{accepted-status, status-says}
 
 -- what the reader ensures of an accepted image
 pub read-state : {image : List ℕ} {s : QoSScheduler} → ReadFrom image s → ReadAs (stateAt image) s

@@ -1,6 +1,6 @@
--- Document 01, "Task record, queues, holders": the states that calls whose numbers fit reach from new, or from an accepted image, have an image.
--- Acceptance bounds all numbers of a state but those that calls give and the microseconds; for these the rules are followed once. Then: the numbers
--- of an accepted image fit, and those of a call that is read from a frame. Assumes nothing.
+-- Document 01, "Task record, queues, holders": a call whose numbers fit keeps a state's numbers in their fields, so that of a state that has an image it
+-- makes one that has an image. Acceptance bounds all numbers of a state but those that calls give and the microseconds; for these the rules are
+-- followed once. Then: the numbers of new fit, those of an accepted image, and those of a call that is read from a frame. Assumes nothing.
 use mathlib.Core.Path.{_≡_, refl, sym, subst}
 use mathlib.Core.Bool.{not}
 use mathlib.Core.List.{List, [], _∷_}
@@ -32,15 +32,12 @@ use Rattle.rules.specs.declared.answer.Status.{Status}
 use Rattle.rules.specs.declared.answer.Status.the-variants.{Done, Refused}
 use Rattle.rules.specs.declared.call.Call.{Call}
 use Rattle.rules.specs.declared.call.Call.the-variants.{Create, Affinity, Terminate, Block, Wake, Enqueue, Schedule, Tick, Yield, Handoff, Plan, CanRunOnCore, TaskIndexForTid, Task, CurrentTaskOnCpu, SystemTicksUs, Holder}
-use Rattle.scheduler.specs.declared.scheduler.QoSScheduler.{QoSScheduler}
-use Rattle.scheduler.specs.declared.scheduler.Reply.{Reply}
 use Rattle.rules.specs.Accepted.{Each, Accepted}
 use Rattle.rules.specs.Outcome.{Outcome, Chosen, goOn}
 use Rattle.rules.specs.Paper.{flagNumber}
 use Rattle.rules.specs.Picking.{choice, afterPick, ruleP, schedule}
-use Rattle.scheduler.specs.Scheduler.{abs, Valid, Meets}
 use Rattle.rules.specs.State.{State, newState, bandOrder, task, queue, holderOf, withTask}
-use Rattle.rules.specs.Step.{step, run}
+use Rattle.rules.specs.Step.{step}
 use Rattle.rules.specs.Ticking.{gain, cleared, sliceOver, charged, requeued, tickHolder, ticked, tick, yieldHolder, yield, handoffIn, handoffHolder, handoff, planned}
 use Rattle.rules.specs.Waking.{freeSlot, create, affinity, terminate, missing, block, enqueue, isHeld, wake}
 use Rattle.rules.proofs.Calls.{new-accepted, call-accepted}
@@ -223,30 +220,24 @@ module _ (s : State) (b : Bounded s) where
 pub kept-fits : (call : Call) (s : State) → Accepted s → FitsCall call → FitsImage s → FitsImage (step call s .state)
 kept-fits call s a fit f = bounded-fits (step call s .state) (call-accepted call s a) (call-bounded s (fits-bounded s f) call fit)
 
--- ---- the states that are reached
+-- so of a state that has an image it makes one that has
+pub called-image : (call : Call) (s : State) → FitsCall call → HasImage s → HasImage (step call s .state)
+called-image call s fit has =
+    has-image (step call s .state) (call-accepted call s (has .accepted)) (kept-fits call s (has .accepted) fit (has .fits))
 
--- by any calls whose numbers fit, from an accepted state whose numbers fit
-pub reached-image : (s : State) (calls : List Call) → Accepted s → FitsImage s → Each FitsCall calls → HasImage (run calls s)
-unfolding run Each
-reached-image s [] a f fit = has-image s a f
-reached-image s (call ∷ calls) a f fit = reached-image (step call s .state) calls (call-accepted call s a) (kept-fits call s a (fit .0) f) (fit .1)
+-- ---- where lists of calls start
 
--- by a call that keeps its contract, whose numbers fit
-pub meets-image : (call : Call) (s : QoSScheduler) (r : Reply) → Meets call s r → Valid s → FitsCall call → FitsImage (abs s) → HasImage (abs (r .state))
-meets-image call s r m v fit f =
-    has-image (abs (r .state)) (m .valid .accepted) (subst FitsImage (sym (m .state-is)) (kept-fits call (abs s) (v .accepted) fit f))
-
--- from new
+-- new
 pub new-fits : FitsImage newState
 new-fits =
     let all-empty : (slot : ℕ) → slot < 64 → Given (task newState slot) =
     λ slot low. subst Given (sym (getD-replicate 64 slot emptyRecord emptyRecord low)) empty-given in
     bounded-fits newState new-accepted (everywhere Given (newState .tasks) emptyRecord 64 refl empty-given all-empty, omega arith)
 
-pub new-reached : (calls : List Call) → Each FitsCall calls → HasImage (run calls newState)
-new-reached calls = reached-image newState calls new-accepted new-fits
+pub new-has-image : HasImage newState
+new-has-image = has-image newState new-accepted new-fits
 
--- from an accepted image: what is read fits
+-- an accepted image: what is read fits
 read-given : (bytes : List ℕ) → AllBytes bytes → Given (recordIn bytes)
 unfolding recordIn Fit
 read-given bytes h =
@@ -260,8 +251,8 @@ image-fits image a =
     bounded-fits (stateAt image) (accepted-state image a)
     (everywhere Given (stateAt image .tasks) emptyRecord 64 (length-tasks image) empty-given all-read, number-small microsPlace 8 image (a .bytes))
 
-pub image-reached : (image : List ℕ) (calls : List Call) → AcceptedImage image → Each FitsCall calls → HasImage (run calls (stateAt image))
-image-reached image calls a = reached-image (stateAt image) calls (accepted-state image a) (image-fits image a)
+pub image-has-image : (image : List ℕ) → AcceptedImage image → HasImage (stateAt image)
+image-has-image image a = has-image (stateAt image) (accepted-state image a) (image-fits image a)
 
 -- ---- calls that are read from frames
 
@@ -292,12 +283,10 @@ read-fits (call ∷ arguments) h =
 pub frame-fits : (frame : List ℕ) (call : Call) → AllBytes frame → frameCall frame ≡ Some call → FitsCall call
 frame-fits frame call h is = subst FitsRead is (read-fits frame h)
 
--- ---- what a frame makes of a state that has an image has one too
-
+-- what a frame makes of a state that has an image has one too
 said-image : (c : CallOption) (s : State) → FitsRead c → HasImage s → HasImage (said c s .state)
-unfolding run Each
 said-image None s fit has = has
-said-image (Some call) s fit has = reached-image s (call ∷ []) (has .accepted) (has .fits) (fit, tt)
+said-image (Some call) s fit has = called-image call s fit has
 
 pub frame-image : (frame : List ℕ) (s : State) → AllBytes frame → HasImage s → HasImage (said (frameCall frame) s .state)
 frame-image frame s h = said-image (frameCall frame) s (read-fits frame h)

@@ -19,8 +19,8 @@ use Rattle.rules.specs.Took.{Carries}
 use Rattle.rules.specs.Stretch.{Event, events, breaks, picks}
 use Rattle.rules.specs.Demand3.{Point}
 use Rattle.rules.specs.Longest.{Longest}
 use Rattle.scheduler.specs.Scheduler.{queuesOf, abs, Valid, IsNew, Meets, MeetsLent}
-use Rattle.scheduler.specs.History.{Made, History, MadeEither, byValue, lent, Mixed, madeOf, left, callsOf, happened, stretchIn, outcomeOf, CodePoint, CodeClaim}
+use Rattle.claims.specs.History.{Made, History, MadeEither, byValue, lent, Mixed, madeOf, left, callsOf, happened, stretchIn, outcomeOf, CodePoint, CodeClaim}
 use Rattle.rules.proofs.Calls.{new-accepted, call-accepted}
 use Rattle.rules.proofs.Stretches.{longest}
 use Rattle.rules.proofs.Waiting.{rules-demand3}

@@ -5,16 +5,16 @@ use mathlib.Core.List.{List, [], _∷_, _++_, map, flatten}
 use Prim.Native.Nat.{ℕ}
 use Rattle.scheduler.specs.declared.scheduler.QoSScheduler.{QoSScheduler}
 use Rattle.rules.specs.State.{State}
 use Rattle.frames.specs.declared.decode.CallOption.{CallOption}
 use Rattle.frames.specs.declared.decode.CallOption.the-variants.{None, Some}
 use Rattle.frames.specs.declared.stream.Stream.{Stream}
 use Rattle.frames.specs.Lines.{lineCall, said, saidTo, lineText, lines, answerTo, stateAfter, answersTo}
-use Rattle.frames.specs.Start.{Start, startState}
+use Rattle.claims.specs.Start.{Start, startState}
 use Rattle.frames.specs.Stream.{Begins}
-use Rattle.frames.specs.TextClaim.{Feeding, Feedings, Answered, Line, byLine, TextClaim, StreamClaim}
-use Rattle.frames.proofs.Demand3.{start-as}
-use Rattle.frames.proofs.Follows.{SaysAt, Chain, asks}
-use Rattle.frames.proofs.Streams.{feedings-answered}
+use Rattle.claims.specs.TextClaim.{Feeding, Feedings, Answered, Line, byLine, TextClaim, StreamClaim}
+use Rattle.claims.proofs.Demand3.{start-as}
+use Rattle.claims.proofs.Follows.{SaysAt, Chain, asks}
+use Rattle.claims.proofs.Feedings.{feedings-answered}
 
 -- ---- some lines, with their answers
 
