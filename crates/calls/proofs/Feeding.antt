@@ -21,7 +21,7 @@ use Rattle.calls.specs.Program.{FeedsBlock, BlockFed, FeedsAll, inputOf}
 
 -- ---- one block
 
-pub record Going (last : Bool) (start : Stream) (block : List ℕ) (stream : Stream) (used : ℕ) : Type 0 where
+pub record BlockGoing (last : Bool) (start : Stream) (block : List ℕ) (stream : Stream) (used : ℕ) : Type 0 where
   pub valid : ValidStream stream
   pub feedings : List Feeding
   pub in-order : (more : List ℕ) → (last ≡ true → more ≡ []) → Feedings start (block ++ more) feedings
@@ -29,9 +29,9 @@ pub record Going (last : Bool) (start : Stream) (block : List ℕ) (stream : Str
   pub used-is : usedBy feedings ≡ used
   pub within : used ≤ length block
 
-pub begin : (last : Bool) (start : Stream) (block : List ℕ) → ValidStream start → Going last start block start 0
+pub block-begin : (last : Bool) (start : Stream) (block : List ℕ) → ValidStream start → BlockGoing last start block start 0
 unfolding Feedings streamAfter usedBy
-begin last start block valid = record {
+block-begin last start block valid = record {
   valid = valid;
   feedings = [];
   in-order = λ more none. tt;
@@ -40,7 +40,7 @@ begin last start block valid = record {
   within = omega arith;
 }
 
-module _ {last : Bool} {start : Stream} {block : List ℕ} {stream : Stream} {used : ℕ} (g : Going last start block stream used) {before after : List ℕ}
+module _ {last : Bool} {start : Stream} {block : List ℕ} {stream : Stream} {used : ℕ} (g : BlockGoing last start block stream used) {before after : List ℕ}
     {r : Fed} (fed : Feeds last stream (take (length block - used) (drop used block)) before after r) where
   abbrev f : Feeding
   f = record { block = drop used block; last = last; before = before; after = after; got = r }
@@ -77,7 +77,7 @@ module _ {last : Bool} {start : Stream} {block : List ℕ} {stream : Stream} {us
   within-after = omega (arith, feeds-in feeds, length-drop used block, g .within)
 
   -- one go more
-  pub turn : Going last start block (r .stream) (used + r .used)
+  pub turn : BlockGoing last start block (r .stream) (used + r .used)
   turn = record {
     valid = feeds .valid;
     feedings = all;

@@ -3,10 +3,11 @@
 use mathlib.Core.Path.{_≡_, refl}
 use mathlib.Core.List.{List, [], _∷_, _++_}
 use Prim.Native.Nat.{ℕ}
-use Rattle.queue.specs.Rules.{pushed, entryAt, takenAt}
+use Rattle.queue.specs.Entries.{pushed, entryAt, takenAt}
 use Rattle.rules.specs.Paper.{paper}
 use Rattle.rules.specs.Picking.{choice, ruleP}
-use Rattle.rules.specs.State.{newState, firstPlace}
+use Rattle.records.specs.Lists.{firstPlace}
+use Rattle.rules.specs.State.{newState}
 use Rattle.rules.specs.Ticking.{ticked, tick}
 use Rattle.rules.specs.Waking.{create, block, enqueue}
 use Rattle.frames.specs.Answer.{answerBytes}

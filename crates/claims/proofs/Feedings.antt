@@ -12,7 +12,7 @@ use Rattle.scheduler.specs.Scheduler.{abs}
 use Rattle.rules.specs.State.{State}
 use Rattle.frames.specs.declared.stream.Stream.{Stream}
 use Rattle.frames.specs.Lines.{some, linesFrom, lines, answerTo, stateAfter, answersTo}
-use Rattle.frames.specs.Stream.{heldOf, Reached, fed, heldIn, Begins, reachedBy, Feeds}
+use Rattle.frames.specs.Stream.{heldOf, FedSoFar, fed, heldIn, Begins, fedBy, Feeds}
 use Rattle.claims.specs.TextClaim.{Feeding, NextOf, Feedings, streamAfter, usedBy, Finished, Answered}
 use Rattle.frames.proofs.Streams.{held-more, answer-held, state-held, some-held, along, written-out, feeds-in, feeds-all}
 
@@ -63,7 +63,7 @@ onto-first {s} {next} {line} {held} {text} is o =
 
 -- a block, whatever comes behind it; nothing comes behind the last
 module _ (last : Bool) (more : List ℕ) (none : last ≡ true → more ≡ []) where
-  abbrev From : ℕ → State → List ℕ → List ℕ → Reached → Type 0
+  abbrev From : ℕ → State → List ℕ → List ℕ → FedSoFar → Type 0
   From room s held block r =
       (line : List ℕ) → held ≡ heldOf line → Onto s (linesFrom line (block ++ more)) (r .text) (r .state) (r .held) (drop (r .used) block ++ more)
 
@@ -109,8 +109,8 @@ module _ (stream : Stream) (text line : List ℕ) (is : heldIn stream ≡ heldOf
   abbrev at : List ℕ
   at = drop (f .got .used) text
 
-  abbrev r : Reached
-  r = reachedBy (f .last) stream (f .block) (length (f .before))
+  abbrev r : FedSoFar
+  r = fedBy (f .last) stream (f .block) (length (f .before))
 
   feeds-onto : Onto (abs (stream .state)) (linesFrom line text) (take (f .got .written) (f .after)) (abs (f .got .stream .state)) (heldIn (f .got .stream)) at
   feeds-onto =

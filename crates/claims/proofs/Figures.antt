@@ -18,10 +18,11 @@ use Rattle.records.specs.declared.state.ThreadState.the-variants.{Ready, Runnin
 use Rattle.records.specs.declared.task.TaskControlBlock.{TaskControlBlock}
 use Rattle.records.specs.Band.{bandCode, codedBand, slice}
 use Rattle.records.specs.Error.{errorCode}
+use Rattle.records.specs.Lists.{everyBelow, firstPlace}
 use Rattle.records.specs.Mask.{permits, storedMask}
-use Rattle.records.specs.State.{stateCode, codedState}
+use Rattle.records.specs.ThreadState.{stateCode, codedState}
 use Rattle.records.specs.Task.{emptyRecord, created, terminated, blocked, picked}
-use Rattle.queue.specs.Rules.{full, takes, pushed, without, entryAt, takenAt}
+use Rattle.queue.specs.Entries.{full, takes, pushed, without, entryAt, takenAt}
 use Rattle.rules.specs.declared.answer.ContextSwitchTarget.the-variants as target
 use Rattle.rules.specs.declared.answer.CoreOption.the-variants as core
 use Rattle.rules.specs.declared.answer.PickOption.the-variants as pick
@@ -32,12 +33,12 @@ use Rattle.rules.specs.declared.answer.Value.the-variants as value
 use Rattle.rules.specs.declared.call.Call.{Call}
 use Rattle.rules.specs.declared.call.Call.the-variants.{Create, Affinity, Terminate, Block, Wake, Enqueue, Schedule, Tick, Yield, Handoff, Plan}
 use Rattle.rules.specs.declared.call.Call.the-variants.{CanRunOnCore, TaskIndexForTid, Task, CurrentTaskOnCpu, SystemTicksUs, Holder}
-use Rattle.rules.specs.Accepted.{everyBelow, recordFits}
+use Rattle.rules.specs.Accepted.{recordFits}
 use Rattle.rules.specs.Outcome.{answered, refusal}
 use Rattle.rules.specs.Paper.{recordNumbers, flagNumber, paper}
 use Rattle.rules.specs.Picking.{choice, ruleP, schedule}
 use Rattle.rules.specs.Queries.{canRunOnCore, taskIndexForTid, taskAt, currentTaskOnCpu, coreOf}
-use Rattle.rules.specs.State.{State, bandOrder, noneByte, newState, firstPlace, withMicros}
+use Rattle.rules.specs.State.{State, bandOrder, noneByte, newState, withMicros}
 use Rattle.rules.specs.Step.{step, run}
 use Rattle.rules.specs.Ticking.{ticked, tick, yield, handoff, planned}
 use Rattle.rules.specs.Waking.{create, affinity, terminate, block, enqueue, wake}

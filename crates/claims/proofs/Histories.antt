@@ -13,11 +13,12 @@ use Rattle.rules.specs.declared.call.Call.{Call}
 use Rattle.scheduler.specs.declared.scheduler.QoSScheduler.{QoSScheduler}
 use Rattle.scheduler.specs.declared.scheduler.Reply.{Reply}
 use Rattle.rules.specs.State.{State, newState, queue}
-use Rattle.rules.specs.Accepted.{Accepted, Each}
+use Rattle.records.specs.Lists.{Each}
+use Rattle.rules.specs.Accepted.{Accepted}
 use Rattle.rules.specs.Step.{step, run}
 use Rattle.rules.specs.Took.{Carries}
 use Rattle.rules.specs.Stretch.{Event, events, breaks, picks}
-use Rattle.rules.specs.Demand3.{Point}
+use Rattle.rules.specs.Waiting.{Point}
 use Rattle.rules.specs.Longest.{Longest}
 use Rattle.scheduler.specs.Scheduler.{queuesOf, abs, Valid, IsNew, Meets, MeetsLent}
 use Rattle.claims.specs.History.{Made, History, MadeEither, byValue, lent, Mixed, madeOf, left, callsOf, happened, stretchIn, outcomeOf, CodePoint, CodeClaim}

@@ -27,7 +27,7 @@ use Rattle.frames.specs.Frame.{frameCall}
 use Rattle.frames.specs.Host.{refusalReturned, answerRoom, Hosted, hostRefused, hostAnswered, hostCalled, hostStep}
 use Rattle.frames.specs.Image.{imageOf, stateAt}
 use Rattle.frames.specs.Lines.{said}
-use Rattle.claims.specs.Start.{ReadFrom, fromImage}
+use Rattle.claims.specs.Demand3.{ReadFrom, fromImage}
 use Rattle.frames.proofs.AcceptedImages.{accepted-state}
 use Rattle.claims.proofs.Demand3.{a-reading}
 use Rattle.claims.proofs.Follows.{run-said, SaysAt, Chain, asks}

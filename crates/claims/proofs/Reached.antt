@@ -6,7 +6,7 @@ use Prim.Native.Nat.{ℕ}
 use Rattle.rules.specs.declared.call.Call.{Call}
 use Rattle.scheduler.specs.declared.scheduler.QoSScheduler.{QoSScheduler}
 use Rattle.scheduler.specs.declared.scheduler.Reply.{Reply}
-use Rattle.rules.specs.Accepted.{Each}
+use Rattle.records.specs.Lists.{Each}
 use Rattle.scheduler.specs.Scheduler.{abs, Valid, Meets}
 use Rattle.rules.specs.State.{State, newState}
 use Rattle.rules.specs.Step.{step, run}

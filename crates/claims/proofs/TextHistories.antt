@@ -9,7 +9,7 @@ use Rattle.frames.specs.declared.decode.CallOption.{CallOption}
 use Rattle.frames.specs.declared.decode.CallOption.the-variants.{None, Some}
 use Rattle.frames.specs.declared.stream.Stream.{Stream}
 use Rattle.frames.specs.Lines.{lineCall, said, saidTo, lineText, lines, answerTo, stateAfter, answersTo}
-use Rattle.claims.specs.Start.{Start, startState}
+use Rattle.claims.specs.Demand3.{Start, startState}
 use Rattle.frames.specs.Stream.{Begins}
 use Rattle.claims.specs.TextClaim.{Feeding, Feedings, Answered, Line, byLine, TextClaim, StreamClaim}
 use Rattle.claims.proofs.Demand3.{start-as}

@@ -15,7 +15,7 @@ use Rattle.rules.specs.Outcome.{Outcome}
 use Rattle.rules.specs.Step.{step, run}
 use Rattle.rules.specs.Took.{Carries}
 use Rattle.rules.specs.Stretch.{Event, breaks, picks, stretch, ahead}
-use Rattle.rules.specs.Demand3.{Waiting}
+use Rattle.rules.specs.Waiting.{Waiting}
 use Rattle.scheduler.specs.Scheduler.{abs, Valid, Meets, MeetsLent}
 
 -- one call, and what the code gave back

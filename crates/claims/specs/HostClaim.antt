@@ -23,7 +23,7 @@ use Rattle.frames.specs.Bytes.{AllBytes}
 use Rattle.frames.specs.Frame.{frameCall}
 use Rattle.frames.specs.Host.{refusalReturned, answerRoom, Hosted, hostStep}
 use Rattle.frames.specs.Image.{imageOf, stateAt}
-use Rattle.claims.specs.Start.{ReadFrom}
+use Rattle.claims.specs.Demand3.{ReadFrom}
 use Rattle.claims.specs.Requests.{Protocol, callsAmong, AskedPoint, Asks}
 
 -- one call: its frame, the answer buffer before, and what came back

@@ -14,12 +14,13 @@ use Rattle.records.specs.declared.task.TaskControlBlock.{TaskControlBlock}
 use Rattle.records.specs.Task.{emptyRecord}
 use Rattle.records.proofs.Bands.{bandCode-small}
 use Rattle.records.proofs.States.{stateCode-small}
-use Rattle.queue.specs.Rules.{places}
-use Rattle.rules.specs.Accepted.{Accepted, Each}
+use Rattle.queue.specs.Entries.{places}
+use Rattle.records.specs.Lists.{Each}
+use Rattle.rules.specs.Accepted.{Accepted}
 use Rattle.rules.specs.Paper.{recordNumbers}
 use Rattle.rules.specs.State.{State, noneByte, task, queue, holder}
 use Rattle.rules.proofs.Invariant.{ready-in-table, used-in-table, accepted-invariant}
-use Rattle.rules.proofs.Says.{Says, equal, less, at-most, same, same-state, both, either, never, implies, within, all-of, below, each, bands, ready-of, may-hold}
+use Rattle.rules.proofs.Says.{Says, equal, less, at-most, same-flag, same-state, both, either, never, implies, by-place, all-of, below, each, bands, ready-of, may-hold}
 use Rattle.frames.specs.AcceptedImage.{AcceptedImage, slotFits, placeFits, bandFits, coreFits, acceptsImage}
 use Rattle.frames.specs.Answer.{recordWidths, recordBytes}
 use Rattle.frames.specs.Bytes.{AllBytes, bytesOf, numbersAt}
@@ -37,8 +38,8 @@ pub accepts-image : (image : List ℕ) → Says (acceptsImage image) (AcceptedIm
 unfolding acceptsImage slotFits placeFits bandFits coreFits
 accepts-image image =
     Iff·trans (both (both (both (both (both equal (all-of (λ _. less) image))
-    (below (λ _. both (both (both less less) less) (both (both (both same (never equal)) (either equal equal)) less))))
-    (bands (λ band. both at-most (below (λ _. within (ready-of band _) equal)))))
+    (below (λ _. both (both (both less less) less) (both (both (both same-flag (never equal)) (either equal equal)) less))))
+    (bands (λ band. both at-most (below (λ _. by-place (ready-of band _) equal)))))
     (below (λ _. implies same-state equal)))
     (below (λ _. either equal may-hold))) (
       λ (((((length-is, bytes), slots), queues), once), holders). record {

@@ -16,9 +16,10 @@ use Rattle.records.specs.declared.band.QoSClass.the-variants.{UserInteractive, 
 use Rattle.records.specs.declared.state.ThreadState.the-variants.{Ready}
 use Rattle.records.specs.declared.task.TaskControlBlock.{TaskControlBlock}
 use Rattle.records.specs.Band.{IsBandCode}
-use Rattle.records.specs.State.{isState}
+use Rattle.records.specs.Lists.{every, everyBelow}
+use Rattle.records.specs.ThreadState.{isState}
 use Rattle.records.proofs.Bands.{bandCode-small}
-use Rattle.rules.specs.Accepted.{every, everyBelow, recordFits, readyOf, onceIfReady, standsOnce, mayHold, holderFits}
+use Rattle.rules.specs.Accepted.{recordFits, readyOf, onceIfReady, standsOnce, mayHold, holderFits}
 use Rattle.rules.specs.State.{noneByte, bandOrder, task, queue}
 use Rattle.rules.proofs.Says.{Says, less, at-most, both, each, bands}
 use Rattle.frames.specs.Bytes.{part}

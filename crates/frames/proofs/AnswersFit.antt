@@ -17,11 +17,12 @@ use Rattle.records.specs.declared.ids.SlotOption.the-variants as slot
 use Rattle.records.specs.declared.state.ThreadState.{ThreadState}
 use Rattle.records.specs.declared.state.ThreadState.the-variants.{Ready, Running, Blocked, Terminated}
 use Rattle.records.specs.Error.{errorCode}
-use Rattle.records.specs.State.{isState}
+use Rattle.records.specs.ThreadState.{isState}
 use Rattle.records.proofs.Bands.{bandCode-small}
 use Rattle.records.proofs.Cases.{by-if}
-use Rattle.queue.specs.Rules.{full}
+use Rattle.queue.specs.Entries.{full}
 use Rattle.records.specs.Band.{bandCode}
+use Rattle.records.specs.Lists.{firstPlace}
 use Rattle.rules.specs.declared.answer.Answer.{Answer}
 use Rattle.rules.specs.declared.answer.CoreOption.{CoreOption}
 use Rattle.rules.specs.declared.answer.PickOption.{PickOption}
@@ -39,8 +40,8 @@ use Rattle.rules.specs.Accepted.{Accepted}
 use Rattle.rules.specs.Outcome.{Outcome, Chosen, answered, refusal, goOn}
 use Rattle.rules.specs.Paper.{paper, statusNumber, pickNumbers, slotNumber, coreNumber, targetNumbers, valueNumbers}
 use Rattle.rules.specs.Picking.{choice, afterPick, ruleP, answerSlot, schedule}
-use Rattle.rules.specs.Queries.{canRunOnCore, slotBelow, hasTid, taskIndexForTid, taskAt, recordOf, currentTaskOnCpu, coreOf}
-use Rattle.rules.specs.State.{State, firstPlace, bandOrder, noneByte, task, queue, holder, holderOf}
+use Rattle.rules.specs.Queries.{canRunOnCore, slotBelow, hasTid, taskIndexForTid, taskAt, holderRecord, currentTaskOnCpu, coreOf}
+use Rattle.rules.specs.State.{State, bandOrder, noneByte, task, queue, holder, holderOf}
 use Rattle.rules.specs.Step.{step}
 use Rattle.rules.specs.Ticking.{gain, cleared, sliceOver, requeued, tickHolder, ticked, tick, targetOf, same, planOf, answerPlan, yieldHolder, yield, handoffIn, handoffHolder, handoff, planned}
 use Rattle.rules.specs.Waking.{freeSlot, coreHolding, create, affinity, terminate, missing, block, enqueue, isHeld, wake}
@@ -231,7 +232,7 @@ current-fits : (s : State) → FitsImage s → (core : ℕ) → TaskFits (curren
 unfolding currentTaskOnCpu Fit
 current-fits s f core = by-if TaskFits (leb 64 core) (λ _. (omega arith, tt)) (λ _. of (holderOf s core))
   where
-    of : (h : SlotOption) → TaskFits (recordOf h s)
+    of : (h : SlotOption) → TaskFits (holderRecord h s)
     of slot.None = (omega arith, tt)
     of (slot.Some h) = task-fits s f (h .0)
 

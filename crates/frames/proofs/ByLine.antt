@@ -11,18 +11,18 @@ use lib.ListN.{length, drop, length-take}
 use Rattle.records.proofs.Cases.{split}
 use Rattle.rules.specs.State.{State}
 use Rattle.frames.specs.Lines.{newline, lineOf, some, answerTo, stateAfter}
-use Rattle.frames.specs.Stream.{longestLine, heldOf, Reached, waits, pastByte, ended, fed}
+use Rattle.frames.specs.Stream.{longestLine, heldOf, FedSoFar, waits, pastByte, ended, fed}
 use Rattle.frames.proofs.Cuts.{test}
 use Rattle.frames.proofs.Streams.{held-more, held-short}
 
 -- this text and so many bytes of the block first
-abbrev pub onward : List ℕ → ℕ → Reached → Reached
+abbrev pub onward : List ℕ → ℕ → FedSoFar → FedSoFar
 onward text used r = record { text = text ++ r .text; used = used + r .used; state = r .state; held = r .held; full = r .full }
 
-pub onward-none : (r : Reached) → r ≡ onward [] 0 r
+pub onward-none : (r : FedSoFar) → r ≡ onward [] 0 r
 onward-none r = λ i. record { text = r .text; used = sym (zero-add (r .used)) i; state = r .state; held = r .held; full = r .full }
 
-pub onward-onward : (a b : List ℕ) (m n : ℕ) (r : Reached) → onward a m (onward b n r) ≡ onward (a ++ b) (m + n) r
+pub onward-onward : (a b : List ℕ) (m n : ℕ) (r : FedSoFar) → onward a m (onward b n r) ≡ onward (a ++ b) (m + n) r
 onward-onward a b m n r =
     λ i. record { text = sym (append-assoc a b (r .text)) i; used = sym (add-assoc m n (r .used)) i; state = r .state; held = r .held; full = r .full }
 
@@ -35,7 +35,7 @@ abbrev pub isEnded : Bool → List ℕ → List ℕ → Bool
 isEnded last held block = ltb (length (lineOf block)) (length block) || (last && some (held ++ lineOf block))
 
 -- so many bytes are used, this is held, and nothing is answered
-abbrev pub stopsAt : State → List ℕ → ℕ → Bool → Reached
+abbrev pub stopsAt : State → List ℕ → ℕ → Bool → FedSoFar
 stopsAt s held used full = record { text = []; used = used; state = s; held = held; full = full }
 
 -- ---- what is held, and whether there is anything of a line, one byte on
@@ -57,7 +57,7 @@ ltb-alike a b c d less most =
 
 module _ (last : Bool) (room : ℕ) (s : State) where
   -- by whether a line is at its end, what is held of it, how many bytes it has, and what comes behind it, at which place
-  abbrev pub byParts : Bool → List ℕ → ℕ → ℕ → List ℕ → Reached
+  abbrev pub byParts : Bool → List ℕ → ℕ → ℕ → List ℕ → FedSoFar
   byParts is-ended line n behind rest =
       cond is-ended
       (cond (leb (length (answerTo line s)) room)
@@ -74,13 +74,13 @@ module _ (last : Bool) (room : ℕ) (s : State) where
       (leb (length (answerTo line s)) room)
       (λ _. λ i. record { text = later .text; used = sum i; state = later .state; held = later .held; full = later .full }) (λ _. refl)
     where
-      r : Reached
+      r : FedSoFar
       r = fed last (room - length (answerTo line s)) (stateAfter line s) [] rest
 
-      onwards : Reached
+      onwards : FedSoFar
       onwards = onward (answerTo line s) behind r
 
-      later : Reached
+      later : FedSoFar
       later = onward (answerTo line s) (suc behind) r
 
       sum : suc (behind + r .used) ≡ suc behind + r .used
@@ -97,11 +97,11 @@ module _ (last : Bool) (room : ℕ) (s : State) where
       (sym (and-false last)))
       (λ _. refl)
     where
-      none : Reached
+      none : FedSoFar
       none = waits false (stateAfter held s) []
 
       -- what an empty line would make, which is none
-      one-more : Reached
+      one-more : FedSoFar
       one-more = ended (room - length (answerTo held s)) (stateAfter held s) [] (waits false (stateAfter [] (stateAfter held s)) [])
 
   at-newline : (held block : List ℕ) →
@@ -110,7 +110,7 @@ module _ (last : Bool) (room : ℕ) (s : State) where
       (record { text = answerTo held s ++ r .text; used = sum i; state = r .state; held = r .held; full = r .full })
       (waits true s held)
     where
-      r : Reached
+      r : FedSoFar
       r = fed last (room - length (answerTo held s)) (stateAfter held s) [] block
 
       sum : suc (r .used) ≡ 1 + r .used

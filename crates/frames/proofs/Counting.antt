@@ -13,7 +13,7 @@ use lib.Seq.{take-suc, take-all, getD-set-same, getD-set-other}
 use Rattle.records.specs.declared.band.QoSClass.{QoSClass}
 use Rattle.records.specs.declared.band.QoSClass.the-variants.{UserInteractive, RealTimeIO, Background}
 use Rattle.records.proofs.Cases.{split}
-use Rattle.queue.specs.Rules.{count}
+use Rattle.records.specs.Lists.{count}
 use Rattle.queue.proofs.Counts.{count-append, count-one, count-other, length-without}
 use Rattle.rules.specs.Accepted.{standings, onceIfReady, standsOnce}
 use Rattle.rules.specs.State.{State, task, queue}

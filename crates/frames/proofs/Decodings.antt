@@ -11,7 +11,7 @@ use lib.ListN.{length, getD, List·getD-eq-default}
 use borrow.Author.Tests.{eq-eqb, ne-eqb}
 use Rattle.records.specs.declared.band.BandOption.{BandOption}
 use Rattle.records.proofs.Cases.{by-if}
-use Rattle.rules.specs.Accepted.{everyBelow}
+use Rattle.records.specs.Lists.{everyBelow}
 use Rattle.rules.proofs.Says.{equal, below}
 use Rattle.frames.specs.declared.decode.CallOption.{CallOption}
 use Rattle.frames.specs.declared.decode.CallOption.the-variants.{None}

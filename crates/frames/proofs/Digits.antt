@@ -13,7 +13,7 @@ use lib.Dec.{leb, eqb}
 use lib.ListN.{length, getD, drop, set, length-set, length-drop, drop-of-length-le}
 use lib.Seq.{sets, drop-cons}
 use Rattle.records.proofs.Cases.{split}
-use Rattle.rules.specs.Accepted.{Each, everyBelow}
+use Rattle.records.specs.Lists.{Each, everyBelow}
 use Rattle.rules.proofs.Says.{equal, below}
 use Rattle.frames.specs.Hex.{within, isDigit, digitValue, digitOf, isHex, byteOf, fromHex, toHex, IsDigitValue}
 use Rattle.frames.specs.Bytes.{AllBytes}
@@ -127,15 +127,15 @@ testing-ended {line} {k} so h =
 
 -- ---- reading: the bytes of the digits that are left, stored behind those that are done, give what is asked for
 
-pub record Reading (line start now : List ℕ) (k : ℕ) : Type 0 where
+pub record ReadingDigits (line start now : List ℕ) (k : ℕ) : Type 0 where
   pub same-length : length now ≡ length start
   pub left-is : sets now k (fromHex (drop (2 * k) line)) ≡ sets start 0 (fromHex line)
 
-pub reading-begin : (line start : List ℕ) → Reading line start start 0
+pub reading-begin : (line start : List ℕ) → ReadingDigits line start start 0
 reading-begin line start = record { same-length = refl; left-is = refl }
 
-pub reading-on : {line start now : List ℕ} {k v w : ℕ} → Reading line start now k → 2 * k + 1 < length line →
-    IsDigitValue (getD line (2 * k) 0) v → IsDigitValue (getD line (2 * k + 1) 0) w → Reading line start (set now k (v * 16 + w)) (k + 1)
+pub reading-on : {line start now : List ℕ} {k v w : ℕ} → ReadingDigits line start now k → 2 * k + 1 < length line →
+    IsDigitValue (getD line (2 * k) 0) v → IsDigitValue (getD line (2 * k + 1) 0) w → ReadingDigits line start (set now k (v * 16 + w)) (k + 1)
 unfolding fromHex
 reading-on {line} {now = now} {k} so h v w =
     let two : 2 * (k + 1) ≡ 2 * k + 2 = omega arith in
@@ -150,7 +150,7 @@ fromHex-short [] h = refl
 fromHex-short (d ∷ []) h = refl
 fromHex-short (d ∷ e ∷ rest) h = absurd (omega arith)
 
-pub reading-ended : {line start now : List ℕ} {k : ℕ} → Reading line start now k → length line / 2 ≤ k → now ≡ sets start 0 (fromHex line)
+pub reading-ended : {line start now : List ℕ} {k : ℕ} → ReadingDigits line start now k → length line / 2 ≤ k → now ≡ sets start 0 (fromHex line)
 reading-ended {line} {k = k} so h = rw (fromHex-short (drop (2 * k) line) (simp length-drop (omega arith))) at (so .left-is)
 
 -- ---- storing: the digits of the bytes that are left, stored behind those that are done, give what is asked for

@@ -3,7 +3,7 @@ use mathlib.Core.List.{List, [], _∷_, _++_}
 use Prim.Native.Nat.{ℕ, zero, suc, _<_}
 use native.Mathlib.Omega.{arith}
 use lib.ListN.{length, getD, take, drop, set}
-use Rattle.rules.specs.Accepted.{Each}
+use Rattle.records.specs.Lists.{Each}
 
 module _ {A : Type 0} (P : A → Type 0) where
   -- of a part

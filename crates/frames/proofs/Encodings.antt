@@ -19,7 +19,7 @@ use Rattle.rules.specs.declared.answer.Value.the-variants as value
 use Rattle.rules.specs.Paper.{statusNumber, pickNumbers, slotNumber, targetNumbers, valueNumbers, recordNumbers}
 use Rattle.frames.specs.Answer.{recordWidths, recordBytes, recordPart, valueWidths, valueBytes, answerBytes}
 use Rattle.frames.specs.Bytes.{Puts, part, bytesOf, written, total}
-use Rattle.frames.proofs.Runs.{behind, run}
+use Rattle.frames.proofs.Runs.{behind, run-on}
 use Rattle.frames.proofs.Sizes.{length-written, written-append, length-valueBytes, length-pick, answerBytes-are, length-answerBytes}
 
 -- ---- a value that was matched
@@ -69,7 +69,7 @@ record-put t o {o₁} at e₁ e₂ e₃ =
 pub task-put : (t : TaskControlBlock) (o : List ℕ) {o₁ o₂ : List ℕ} → o₁ ≡ sets o 3 (bytesOf 1 1) → o₂ ≡ sets o₁ 4 (recordBytes t)
     → Puts (valueBytes (value.Task (task.Some t))) 3 o o₂ 48
 unfolding valueBytes recordBytes
-task-put t o e r = record { buffer-is = run o 3 1 4 _ e refl refl r; length-is = sym (length-valueBytes (value.Task (task.Some t))) }
+task-put t o e r = record { buffer-is = run-on o 3 1 4 _ e refl refl r; length-is = sym (length-valueBytes (value.Task (task.Some t))) }
 
 -- ---- an answer
 
@@ -77,7 +77,7 @@ pub answer-put : (a : Answer) (o : List ℕ) {o₁ o₂ o₃ : List ℕ} {x n : 
     → o₂ ≡ sets o₁ 1 (written (1 ∷ 1 ∷ []) (pickNumbers (a .pick))) → Puts (valueBytes (a .value)) 3 o₂ o₃ n → Puts (answerBytes a) 0 o o₃ (3 + n)
 answer-put a o {o₁} {o₂} e v p w = record {
   buffer-is =
-      run o 0 1 1 _ e v refl
+      run-on o 0 1 1 _ e v refl
       (behind o₁ 1 3 (written (1 ∷ 1 ∷ []) (pickNumbers (a .pick))) (valueBytes (a .value)) p (ap (λ (n : ℕ). 1 + n) (sym (length-pick (a .pick)))) (w .buffer-is))
       ∙ ap (sets o 0) (sym (answerBytes-are a));
   length-is = ap (λ (n : ℕ). 3 + n) (w .length-is) ∙ sym (length-answerBytes a);

@@ -11,7 +11,7 @@ use lib.Seq.{sets, length-sets, length-take-le, sets-eq, take-at, take-all, take
 use Rattle.scheduler.specs.declared.scheduler.QoSScheduler.{QoSScheduler}
 use Rattle.scheduler.specs.Scheduler.{Valid}
 use Rattle.frames.specs.declared.stream.Stream.{Stream}
-use Rattle.frames.specs.Stream.{heldIn, ValidStream, Begins, Holds, Stops}
+use Rattle.frames.specs.Stream.{heldIn, ValidStream, Begins, HoldsLine, Stops}
 use Rattle.frames.proofs.Cuts.{test}
 
 take-min : (n : ℕ) (l : List ℕ) → take (min (length l) n) l ≡ take n l
@@ -24,7 +24,7 @@ take-min n l =
 
 -- more of a line behind so many bytes of it
 pub holds : (len : ℕ) (line before : List ℕ) {n : ℕ} {after : List ℕ} → len ≤ 61 → length before ≡ 61 → n ≡ min (length line) (61 - len) →
-    after ≡ sets before len (take n line) → Holds len line before after (len + n)
+    after ≡ sets before len (take n line) → HoldsLine len line before after (len + n)
 holds len line before {n} {after} low places is stored =
     let a : List ℕ = take len before in
     let size : length a ≡ len = length-take-le len before (omega arith) in
@@ -49,7 +49,7 @@ unfolding heldIn
 begins s held valid places = record { valid = record { valid = valid; places = places; within = omega arith }; state-is = refl; held-is = refl }
 
 pub stops : {stream : Stream} {line held : List ℕ} {len : ℕ} (used written : ℕ) (full : Bool) → ValidStream stream →
-    Holds (stream .len) line (stream .held) held len →
+    HoldsLine (stream .len) line (stream .held) held len →
     Stops stream line used written full
     (record { stream = record { state = stream .state; held = held; len = len }; used = used; written = written; «is_full» = full })
 unfolding heldIn

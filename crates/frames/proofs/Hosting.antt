@@ -33,7 +33,7 @@ use Rattle.frames.specs.AcceptedImage.{AcceptedImage, acceptsImage}
 use Rattle.frames.specs.Answer.{answerBytes}
 use Rattle.frames.specs.Bytes.{Puts}
 use Rattle.frames.specs.Frame.{frameCall}
-use Rattle.frames.specs.Host.{hostNumber, refusalReturned, answerRoom, imageStatus, ReadAs, OnImage, onImage, calledIn, callOnImage, made, hostNew, Hosted, hosted, hostRefused, hostCalled, hostStep, refusalIn, CalledOn}
+use Rattle.frames.specs.Host.{hostNumber, refusalReturned, answerRoom, imageStatus, ReadAs, OnImage, onImage, calledIn, callOnImage, firstImage, hostNew, Hosted, hosted, hostRefused, hostCalled, hostStep, refusalIn, CalledOn}
 use Rattle.frames.specs.Image.{imageLength, imageOf, stateAt}
 use Rattle.frames.specs.ImageParts.{WritesImage}
 use Rattle.frames.proofs.Images.{writes-back}
@@ -47,18 +47,18 @@ hostNumber-small NoFrame = omega arith
 
 -- what `new_image` gets from the writer, in either case of its test
 pub new-made : {s : State} {before after : List ℕ} {r done : Bool} → s ≡ newState → WritesImage s before after r → r ≡ done →
-    made (cond done 0 (refusalReturned WrongLength)) after ≡ hostNew before
+    firstImage (cond done 0 (refusalReturned WrongLength)) after ≡ hostNew before
 unfolding hostNew
 new-made {s} {before} new writes is =
-    (λ i. made (cond ((sym is ∙ writes .done-is) i) 0 (refusalReturned WrongLength)) (writes .image-is i))
-    ∙ ap (λ t. made (cond fits 0 (refusalReturned WrongLength)) (cond fits (imageOf t) before)) new
+    (λ i. firstImage (cond ((sym is ∙ writes .done-is) i) 0 (refusalReturned WrongLength)) (writes .image-is i))
+    ∙ ap (λ t. firstImage (cond fits 0 (refusalReturned WrongLength)) (cond fits (imageOf t) before)) new
     ∙ either fits
   where
     fits : Bool
     fits = eqb (length before) imageLength
 
-    either : (t : Bool) → made (cond t 0 (refusalReturned WrongLength)) (cond t (imageOf newState) before)
-        ≡ cond t (made 0 (imageOf newState)) (made (refusalReturned WrongLength) before)
+    either : (t : Bool) → firstImage (cond t 0 (refusalReturned WrongLength)) (cond t (imageOf newState) before)
+        ≡ cond t (firstImage 0 (imageOf newState)) (firstImage (refusalReturned WrongLength) before)
     either true = refl
     either false = refl
 

@@ -28,7 +28,7 @@ use Rattle.frames.specs.Answer.{answerBytes}
 use Rattle.frames.specs.Bytes.{bytesOf}
 use Rattle.frames.specs.Fits.{FitsCall, HasImage}
 use Rattle.frames.specs.Frame.{frameCall}
-use Rattle.frames.specs.Host.{answerRoom, hostRefused, callOnImage, Made, hostNew, Hosted, hosted, hostAnswered, hostCalled, wrongLength, hostStep}
+use Rattle.frames.specs.Host.{answerRoom, hostRefused, callOnImage, FirstImage, hostNew, Hosted, hosted, hostAnswered, hostCalled, wrongLength, hostStep}
 use Rattle.frames.specs.Image.{imageLength, imageOf, stateAt}
 use Rattle.frames.proofs.AcceptedImages.{accepts-image}
 use Rattle.frames.proofs.Hosting.{step-short}
@@ -75,7 +75,7 @@ pub made-accepted : (image : List ℕ) → hostNew image .returned ≡ 0 → Acc
 unfolding hostNew
 made-accepted image = by-if StandsForNew (eqb (length image) imageLength) (λ _ _. new-image) (λ _ h. absurd (omega (arith, h)))
   where
-    StandsForNew : Made → Type 0
+    StandsForNew : FirstImage → Type 0
     StandsForNew m = m .returned ≡ 0 → AcceptedImage (m .image) × (stateAt (m .image) ≡ newState)
 
 -- 7 for a buffer that is too short, whatever the image

@@ -14,22 +14,23 @@ use Rattle.records.specs.declared.band.QoSClass.the-variants.{UserInteractive, 
 use Rattle.records.specs.declared.state.ThreadState.{ThreadState}
 use Rattle.records.specs.declared.task.TaskControlBlock.{TaskControlBlock}
 use Rattle.records.specs.Band.{bandCode}
-use Rattle.records.specs.State.{stateCode}
+use Rattle.records.specs.Lists.{Each}
+use Rattle.records.specs.ThreadState.{stateCode}
 use Rattle.records.specs.Task.{emptyRecord}
 use Rattle.records.proofs.Bands.{bandCode-small, codedBand-code}
 use Rattle.records.proofs.States.{codedState-code}
-use Rattle.queue.specs.Rules.{places}
-use Rattle.queue.proofs.Rules.{length-places}
-use Rattle.rules.specs.Accepted.{Each, Accepted}
+use Rattle.queue.specs.Entries.{places}
+use Rattle.queue.proofs.Entries.{length-places}
+use Rattle.rules.specs.Accepted.{Accepted}
 use Rattle.rules.specs.Paper.{recordNumbers, flagNumber}
 use Rattle.rules.specs.State.{State, noneByte, task, queue, holder}
 use Rattle.rules.proofs.Invariant.{no-holder}
-use Rattle.scheduler.proofs.Stored.{read-any}
+use Rattle.scheduler.proofs.Arrays.{read-any}
 use Rattle.frames.specs.AcceptedImage.{AcceptedImage, bandByte, stateByte, inUseByte}
 use Rattle.frames.specs.Answer.{recordWidths, recordBytes}
 use Rattle.frames.specs.Bytes.{AllBytes, bytesOf, bigEndian, part, numberAt, total}
 use Rattle.frames.specs.Image.{recordLength, queueLength, recordPlace, queuePlace, holdersPlace, microsPlace, imageLength}
-use Rattle.frames.specs.Image.{recordsBytes, queueBytes, queuesBytes, imageOf, orEmptyBand, bandOf, orEmptyState, stateOf, recordOf, recordIn, recordsIn, recordAt, queueAt, lengthByte, slotByte, queueIn, stateAt, FitsImage, FitsRecord}
+use Rattle.frames.specs.Image.{recordsBytes, queueBytes, queuesBytes, imageOf, orEmptyBand, bandOf, orEmptyState, stateOf, recordFrom, recordIn, recordsIn, recordAt, queueAt, lengthByte, slotByte, queueIn, stateAt, FitsImage, FitsRecord}
 use Rattle.frames.proofs.Numbers.{length-bytesOf, bigEndian-bytesOf}
 use Rattle.frames.proofs.Sizes.{length-recordBytes}
 use Rattle.frames.proofs.Widths.{length-part, bytes-part, piecesAt, pieces-flatten, flatten-pieces, length-flatten, bytesOf-numberAt, numbersAt-written, written-numbersAt}
@@ -72,13 +73,13 @@ flagNumber-of (suc (suc code)) h = absurd (omega (arith, h))
 -- ---- a record
 
 -- a record from its own numbers
-recordOf-numbers : (t : TaskControlBlock) → recordOf (recordNumbers t) ≡ t
-recordOf-numbers t = rw (bandOf-code (t .qos), stateOf-code (t .state), flag-number (t .«in_use»))
+recordFrom-numbers : (t : TaskControlBlock) → recordFrom (recordNumbers t) ≡ t
+recordFrom-numbers t = rw (bandOf-code (t .qos), stateOf-code (t .state), flag-number (t .«in_use»))
 
 -- written, and read back
 pub recordIn-recordBytes : (t : TaskControlBlock) → FitsRecord t → recordIn (recordBytes t) ≡ t
 unfolding recordIn recordBytes
-recordIn-recordBytes t fit = ap recordOf (numbersAt-written recordWidths (recordNumbers t) fit) ∙ recordOf-numbers t
+recordIn-recordBytes t fit = ap recordFrom (numbersAt-written recordWidths (recordNumbers t) fit) ∙ recordFrom-numbers t
 
 -- read, and written again
 pub recordBytes-recordIn : (bytes : List ℕ) → AllBytes bytes → length bytes ≡ recordLength → bandByte bytes < 3 → stateByte bytes < 4 → inUseByte bytes < 2 →

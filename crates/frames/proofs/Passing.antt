@@ -11,7 +11,7 @@ use lib.Dec.{ltb, eqb}
 use lib.ListN.{length, getD, take}
 use lib.Seq.{take-suc}
 use Rattle.records.proofs.Cases.{split}
-use Rattle.rules.specs.Accepted.{every, everyBelow}
+use Rattle.records.specs.Lists.{every, everyBelow}
 use Rattle.frames.specs.ImageParts.{allZero}
 
 -- a test that a call answered by r, after the code asked `!r`

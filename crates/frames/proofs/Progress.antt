@@ -14,7 +14,7 @@ use Rattle.scheduler.specs.Scheduler.{abs, Valid}
 use Rattle.frames.specs.declared.stream.Fed.{Fed}
 use Rattle.frames.specs.declared.stream.Stream.{Stream}
 use Rattle.frames.specs.Lines.{lineOf, lineText, some, answerTo, stateAfter}
-use Rattle.frames.specs.Stream.{heldOf, Reached, fed, heldIn, ValidStream, reachedBy, Feeds, PutsLine, Stops}
+use Rattle.frames.specs.Stream.{heldOf, FedSoFar, fed, heldIn, ValidStream, fedBy, Feeds, PutsLine, Stops}
 use Rattle.frames.proofs.ByLine.{onward, onward-none, onward-onward, past, stopsAt, byParts, ltb-alike, fed-line}
 use Rattle.frames.proofs.Cuts.{test, line-within}
 use Rattle.frames.proofs.LinePuts.{was-put, put-in, was-not-put}
@@ -25,7 +25,7 @@ use Rattle.frames.proofs.Tellings.{Makes}
 pub record Going (last : Bool) (start : Stream) (block before out : List ℕ) (state : QoSScheduler) (len used written : ℕ) : Type 0 where
   pub done : List ℕ
   pub whole :
-      reachedBy last start block (length before)
+      fedBy last start block (length before)
       ≡ onward done used (fed last (length before - written) (abs state) (take len (start .held)) (drop used block))
   pub written-is : written ≡ length done
   pub out-is : out ≡ sets before 0 done
@@ -116,7 +116,7 @@ module _ {last : Bool} {start : Stream} {block before out : List ℕ} {state : Q
   -- ---- the ends
 
   module _ {full : Bool} (stops : fed last room (abs state) held here ≡ stopsAt (abs state) heldThen (length line) full) where
-    final : reachedBy last start block (length before)
+    final : fedBy last start block (length before)
         ≡ record { text = g .done; used = used + length line; state = abs state; held = heldThen; full = full }
     final =
         g .whole
@@ -127,13 +127,13 @@ module _ {last : Bool} {start : Stream} {block before out : List ℕ} {state : Q
     unfolding heldIn
     stopped same s = record {
       valid = s .valid;
-      state-is = ap abs (s .state-is) ∙ sym (ap (λ (r : Reached). r .state) final);
-      held-is = s .held-is ∙ sym (ap (λ (r : Reached). r .held) final);
-      used-is = s .used-is ∙ sym (ap (λ (r : Reached). r .used) final);
-      full-is = s .full-is ∙ sym (ap (λ (r : Reached). r .full) final);
-      written-is = s .written-is ∙ g .written-is ∙ sym (ap (λ (r : Reached). length (r .text)) final);
+      state-is = ap abs (s .state-is) ∙ sym (ap (λ (r : FedSoFar). r .state) final);
+      held-is = s .held-is ∙ sym (ap (λ (r : FedSoFar). r .held) final);
+      used-is = s .used-is ∙ sym (ap (λ (r : FedSoFar). r .used) final);
+      full-is = s .full-is ∙ sym (ap (λ (r : FedSoFar). r .full) final);
+      written-is = s .written-is ∙ g .written-is ∙ sym (ap (λ (r : FedSoFar). length (r .text)) final);
       written-in = omega (arith, s .written-is, g .written-in);
-      buffer-is = same ∙ g .out-is ∙ sym (ap (λ (r : Reached). sets before 0 (r .text)) final);
+      buffer-is = same ∙ g .out-is ∙ sym (ap (λ (r : FedSoFar). sets before 0 (r .text)) final);
     }
 
   -- the line is not at its end
@@ -156,7 +156,7 @@ module _ {last : Bool} {start : Stream} {block before out : List ℕ} {state : Q
     next-state = sym (made .state-is)
 
     -- what comes behind the line
-    abbrev later : Reached
+    abbrev later : FedSoFar
     later = fed last (room - length answer) (stateAfter heldThen (abs state)) [] (drop (past here) here)
 
     by-room : (b : Bool) → leb (length answer) room ≡ b →

@@ -15,8 +15,9 @@ use Rattle.records.proofs.Bands.{bandCode-small}
 use Rattle.queue.specs.declared.BandQueue.{BandQueue}
 use Rattle.queue.specs.Stored.{Holds}
 use Rattle.scheduler.specs.declared.scheduler.QoSScheduler.{QoSScheduler}
-use Rattle.rules.specs.Accepted.{Accepted, Each}
-use Rattle.scheduler.specs.Scheduler.{abs, queuesOf, Hold, IsNew}
+use Rattle.records.specs.Lists.{Each}
+use Rattle.rules.specs.Accepted.{Accepted}
+use Rattle.scheduler.specs.Scheduler.{abs, queuesOf, HoldQueues, IsNew}
 use Rattle.rules.specs.State.{queue}
 use Rattle.frames.specs.declared.read.ImageStatus.{ImageStatus}
 use Rattle.frames.specs.declared.read.ImageStatus.the-variants as read
@@ -100,7 +101,7 @@ module _ (image : List ℕ) (long : length image ≡ imageLength) where
 
 -- a queue for each band
 pub queues-hold : (image : List ℕ) {first second third : BandQueue} → Holds first (queue (stateAt image) UserInteractive) → Holds second (queue (stateAt image) RealTimeIO) →
-    Holds third (queue (stateAt image) Background) → Hold (first ∷ second ∷ third ∷ []) (stateAt image .queues)
+    Holds third (queue (stateAt image) Background) → HoldQueues (first ∷ second ∷ third ∷ []) (stateAt image .queues)
 unfolding queuesOf Each
 queues-hold image a b c = record {
   whole = record { bands = refl; rings = (a .well-formed, (b .well-formed, (c .well-formed, tt))) };
@@ -110,7 +111,7 @@ queues-hold image a b c = record {
 -- the scheduler with its records read so far, and all that is not a record
 pub record Reading (image : List ℕ) (slot : ℕ) (s : QoSScheduler) : Type 0 where
   pub records : Recording image slot (s .tasks)
-  pub queues : Hold (s .queues) (stateAt image .queues)
+  pub queues : HoldQueues (s .queues) (stateAt image .queues)
   pub holders : s .current ≡ stateAt image .holders
   pub micros : IsNumber microsPlace 8 image (s .«system_ticks_us»)
 

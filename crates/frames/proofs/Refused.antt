@@ -1,5 +1,5 @@
 -- Lines that are no frame: what they are answered, and that every line longer than any frame's is one. Assumes nothing.
-use mathlib.Core.Bool.{Bool, true, false, cond, _&&_, false≢true, and-eq-true-iff}
+use mathlib.Core.Bool.{Bool, true, cond, _&&_, false≢true, and-eq-true-iff}
 use mathlib.Core.List.{List, [], _∷_}
 use mathlib.Core.Path.{_≡_, refl, ap}
 use Prim.Native.Nat.{ℕ, _*_, _≤_, _<_}
@@ -8,7 +8,7 @@ use borrow.Author.Tests.{ltb-true, ltb-false, ne-eqb}
 use lib.Dec.{ltb}
 use lib.ListN.{length, getD, List·getD-eq-default}
 use Rattle.records.proofs.Cases.{split, by-if}
-use Rattle.rules.specs.Accepted.{everyBelow}
+use Rattle.records.specs.Lists.{everyBelow}
 use Rattle.rules.proofs.Says.{at-most, below}
 use Rattle.frames.specs.declared.decode.CallOption.{CallOption}
 use Rattle.frames.specs.declared.decode.CallOption.the-variants.{None}

@@ -15,9 +15,9 @@ pub behind : (o : List ℕ) {o₁ o₂ : List ℕ} (at next : ℕ) (a b : List �
 behind o at next a b e n more = more ∙ (λ i. sets (e i) (n i) b) ∙ sym (sets-append o at a b)
 
 -- a number, then what is stored behind it
-pub run : (o : List ℕ) {o₁ o₂ : List ℕ} (at width next : ℕ) {x y : ℕ} (rest : List ℕ) → o₁ ≡ sets o at (bytesOf width x) → x ≡ y
+pub run-on : (o : List ℕ) {o₁ o₂ : List ℕ} (at width next : ℕ) {x y : ℕ} (rest : List ℕ) → o₁ ≡ sets o at (bytesOf width x) → x ≡ y
     → next ≡ at + width → o₂ ≡ sets o₁ next rest → o₂ ≡ sets o at (bytesOf width y ++ rest)
-run o at width next {y = y} rest e v n =
+run-on o at width next {y = y} rest e v n =
     behind o at next (bytesOf width y) rest (e ∙ (λ i. sets o at (bytesOf width (v i)))) (n ∙ ap (λ (w : ℕ). at + w) (sym (length-bytesOf width y)))
 
 -- the last number of a run

@@ -19,20 +19,21 @@ use Rattle.records.specs.declared.state.ThreadState.{ThreadState}
 use Rattle.records.specs.declared.state.ThreadState.the-variants.{Ready, Running, Blocked, Terminated}
 use Rattle.records.specs.declared.task.TaskControlBlock.{TaskControlBlock}
 use Rattle.records.specs.Band.{bandCode, codedBand, slice}
+use Rattle.records.specs.Lists.{Each}
 use Rattle.records.specs.Mask.{storedMask}
-use Rattle.records.specs.State.{stateCode, isState}
+use Rattle.records.specs.ThreadState.{stateCode, isState}
 use Rattle.records.specs.Task.{emptyRecord, created, withState, withMask, withConsumed, terminated, blocked, picked}
 use Rattle.records.proofs.Bands.{bandCode-small}
 use Rattle.records.proofs.Cases.{by-if}
 use Rattle.records.proofs.States.{stateCode-small}
-use Rattle.queue.specs.Rules.{full}
+use Rattle.queue.specs.Entries.{full}
 use Rattle.rules.specs.declared.answer.PickOption.{PickOption}
 use Rattle.rules.specs.declared.answer.PickOption.the-variants as pick
 use Rattle.rules.specs.declared.answer.Status.{Status}
 use Rattle.rules.specs.declared.answer.Status.the-variants.{Done, Refused}
 use Rattle.rules.specs.declared.call.Call.{Call}
 use Rattle.rules.specs.declared.call.Call.the-variants.{Create, Affinity, Terminate, Block, Wake, Enqueue, Schedule, Tick, Yield, Handoff, Plan, CanRunOnCore, TaskIndexForTid, Task, CurrentTaskOnCpu, SystemTicksUs, Holder}
-use Rattle.rules.specs.Accepted.{Each, Accepted}
+use Rattle.rules.specs.Accepted.{Accepted}
 use Rattle.rules.specs.Outcome.{Outcome, Chosen, goOn}
 use Rattle.rules.specs.Paper.{flagNumber}
 use Rattle.rules.specs.Picking.{choice, afterPick, ruleP, schedule}

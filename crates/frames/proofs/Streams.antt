@@ -17,7 +17,7 @@ use Rattle.frames.specs.declared.stream.Fed.{Fed}
 use Rattle.frames.specs.declared.stream.Stream.{Stream}
 use Rattle.frames.specs.Hex.{toHex}
 use Rattle.frames.specs.Lines.{newline, lineCall, said, saidTo, lineText, some, answerTo, stateAfter}
-use Rattle.frames.specs.Stream.{longestLine, longestAnswer, heldOf, Reached, waits, answering, pastByte, ended, fed, heldIn, reachedBy, Feeds}
+use Rattle.frames.specs.Stream.{longestLine, longestAnswer, heldOf, FedSoFar, waits, answering, pastByte, ended, fed, heldIn, fedBy, Feeds}
 use Rattle.frames.proofs.Digits.{length-toHex}
 use Rattle.frames.proofs.Refused.{long-line}
 use Rattle.frames.proofs.Sizes.{said-fits}
@@ -72,21 +72,21 @@ unfolding answerTo
 answer-in line s = omega (arith, length-lineText (saidTo line s .bytes), said-fits line s)
 
 -- a fact about what is reached where the line that is held is at its end
-by-end : (P : Reached → Type 0) (room : ℕ) (s : State) (held : List ℕ) (next : Reached) →
+by-end : (P : FedSoFar → Type 0) (room : ℕ) (s : State) (held : List ℕ) (next : FedSoFar) →
     (length (answerTo held s) ≤ room → P (answering (answerTo held s) next)) → (room < length (answerTo held s) → P (waits true s held)) →
     P (ended room s held next)
 by-end P room s held next fits full =
     by-if P (leb (length (answerTo held s)) room) (λ e. fits (leb-true _ _ e)) (λ e. full (leb-false _ _ e))
 
 -- along the bytes of a block
-module _ (last : Bool) (P : ℕ → State → List ℕ → List ℕ → Reached → Type 0)
+module _ (last : Bool) (P : ℕ → State → List ℕ → List ℕ → FedSoFar → Type 0)
     (stays : (room : ℕ) (s : State) (held : List ℕ) → last && some held ≡ false → P room s held [] (waits false s held))
     (closes : (room : ℕ) (s : State) (held : List ℕ) → last && some held ≡ true → length (answerTo held s) ≤ room →
     P room s held [] (answering (answerTo held s) (waits false (stateAfter held s) [])))
     (is-full : (room : ℕ) (s : State) (held block : List ℕ) → room < length (answerTo held s) → P room s held block (waits true s held))
-    (answers : (room : ℕ) (s : State) (held block : List ℕ) (r : Reached) (b : ℕ) → eqb b newline ≡ true → length (answerTo held s) ≤ room →
+    (answers : (room : ℕ) (s : State) (held block : List ℕ) (r : FedSoFar) (b : ℕ) → eqb b newline ≡ true → length (answerTo held s) ≤ room →
     P (room - length (answerTo held s)) (stateAfter held s) [] block r → P room s held (b ∷ block) (answering (answerTo held s) (pastByte r)))
-    (goes-on : (room : ℕ) (s : State) (held block : List ℕ) (r : Reached) (b : ℕ) → eqb b newline ≡ false →
+    (goes-on : (room : ℕ) (s : State) (held block : List ℕ) (r : FedSoFar) (b : ℕ) → eqb b newline ≡ false →
     P room s (heldOf (held ++ (b ∷ []))) block r → P room s held (b ∷ block) (pastByte r)) where
   pub along : (block : List ℕ) (room : ℕ) (s : State) (held : List ℕ) → P room s held block (fed last room s held block)
   unfolding fed
@@ -140,7 +140,7 @@ module _ (last : Bool) where
 
 module _ {last : Bool} {stream : Stream} {block before after : List ℕ} {r : Fed} (feeds : Feeds last stream block before after r) where
   -- what stands at the front of the buffer
-  pub written-out : take (r .written) after ≡ reachedBy last stream block (length before) .text
+  pub written-out : take (r .written) after ≡ fedBy last stream block (length before) .text
   written-out =
       (λ i. take (feeds .written-is i) (feeds .buffer-is i)) ∙ take-sets before _ (text-in last block (length before) (abs (stream .state)) (heldIn stream))
 

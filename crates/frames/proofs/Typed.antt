@@ -13,7 +13,7 @@ use Rattle.records.proofs.task.TaskControlBlock as block
 use Rattle.records.proofs.Bands.{bandCode-small}
 use Rattle.records.proofs.States.{stateCode-small}
 use Rattle.scheduler.specs.declared.scheduler.QoSScheduler.{QoSScheduler}
-use Rattle.rules.specs.Accepted.{Each}
+use Rattle.records.specs.Lists.{Each}
 use Rattle.scheduler.specs.Scheduler.{abs, Valid}
 use Rattle.scheduler.proofs.scheduler.QoSScheduler as scheduler
 use Rattle.frames.specs.Bytes.{Fit}

@@ -8,7 +8,7 @@ use native.Mathlib.Nat.{mul-assoc, mul-le-mul-right, pow-succ', pow-le-pow-right
 use native.Mathlib.Omega.{arith}
 use lib.ListN.{length, take, drop, length-append, length-take, length-drop}
 use lib.Seq.{take-at, drop-append-seam, take-add, drop-drop}
-use Rattle.rules.specs.Accepted.{Each}
+use Rattle.records.specs.Lists.{Each}
 use Rattle.frames.specs.Bytes.{AllBytes, bigEndianFrom, bigEndian, bytesOf, part, numberAt, written, numbersAt, Fit, total}
 use Rattle.frames.proofs.Elements.{each-take, each-drop}
 use Rattle.frames.proofs.Numbers.{length-bytesOf, bigEndian-bytesOf, bytesOf-bigEndian}

@@ -17,13 +17,13 @@ use Rattle.records.specs.Band.{bandCode}
 use Rattle.records.specs.Task.{emptyRecord}
 use Rattle.records.proofs.Cases.{split}
 use Rattle.queue.specs.declared.BandQueue.{BandQueue}
-use Rattle.queue.specs.Rules.{places}
+use Rattle.queue.specs.Entries.{places}
 use Rattle.queue.specs.Stored.{entries, WellFormed}
 use Rattle.scheduler.specs.declared.scheduler.QoSScheduler.{QoSScheduler}
 use Rattle.scheduler.specs.Scheduler.{queuesOf, abs, Whole, Valid}
 use Rattle.rules.specs.State.{State, Queues, ofBand}
 use Rattle.rules.specs.Touched.{SameBut}
-use Rattle.scheduler.proofs.Stored.{read-any, ring-of, entries-of}
+use Rattle.scheduler.proofs.Arrays.{read-any, ring-of, entries-of}
 use Rattle.frames.specs.AcceptedImage.{AcceptedImage}
 use Rattle.frames.specs.Answer.{recordBytes}
 use Rattle.frames.specs.Bytes.{bytesOf}
@@ -31,7 +31,7 @@ use Rattle.frames.specs.Image.{recordLength, recordPlace, queueLength, q
 use Rattle.frames.specs.Fits.{HasImage}
 use Rattle.frames.specs.ImageParts.{Short, WritesImage}
 use Rattle.frames.proofs.Images.{length-recordsBytes, length-tasks, length-queueBytes, records-first, length-imageOf, writes-back}
-use Rattle.frames.proofs.Runs.{behind, run}
+use Rattle.frames.proofs.Runs.{behind, run-on}
 use Rattle.frames.proofs.Sizes.{length-recordBytes}
 use Rattle.frames.proofs.Stores.{sets-append, sets-behind, sets-over, sets-all}
 
@@ -97,7 +97,7 @@ pub queue-put : (es : List ℕ) → length es ≤ 64 → (o : List ℕ) {o₁ o�
     → o₂ ≡ sets o₁ (at + 1) ps → ps ≡ places es → o₂ ≡ sets o at (queueBytes es)
 unfolding queueBytes
 queue-put es short o {o₁} at e₁ x e₂ p =
-    run o at 1 (at + 1) (places es) e₁ x refl (e₂ ∙ ap (sets o₁ (at + 1)) p)
+    run-on o at 1 (at + 1) (places es) e₁ x refl (e₂ ∙ ap (sets o₁ (at + 1)) p)
     ∙ ap (λ front. sets o at (front ++ places es)) (one-byte (length es) (omega (arith, short)))
 
 pub length-queuesBytes : (q : Queues) → Short q → length (queuesBytes q) ≡ 3 * queueLength

@@ -11,8 +11,9 @@ use lib.ListN.{length, getD}
 use Rattle.records.specs.declared.band.QoSClass.{QoSClass}
 use Rattle.records.specs.declared.state.ThreadState.the-variants.{Ready, Terminated}
 use Rattle.records.specs.Band.{slice}
-use Rattle.records.specs.State.{isState}
-use Rattle.rules.specs.Accepted.{ReadyOf, MayHold, every, everyBelow, standings, recordFits, readyOf, standsOnce, holderFits}
+use Rattle.records.specs.Lists.{every, everyBelow}
+use Rattle.records.specs.ThreadState.{isState}
+use Rattle.rules.specs.Accepted.{ReadyOf, MayHold, standings, recordFits, readyOf, standsOnce, holderFits}
 use Rattle.rules.specs.State.{noneByte, bandOrder, task, holder}
 use Rattle.frames.specs.Answer.{recordWidths}
 use Rattle.frames.specs.Bytes.{AllBytes, numbersAt}

@@ -5,7 +5,7 @@ use Prim.Native.Nat.{ℕ, zero, suc, _+_, _*_, _/_, _%_, _<_, _^_}
 use mathlib.Core.Path.{_≡_}
 use lib.ListN.{length, take, drop}
 use lib.Seq.{sets}
-use Rattle.rules.specs.Accepted.{Each}
+use Rattle.records.specs.Lists.{Each}
 
 -- every element is a byte
 abbrev pub AllBytes : List ℕ → Type 0

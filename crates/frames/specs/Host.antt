@@ -86,16 +86,16 @@ callOnImage call image = calledIn (imageStatus image) call image
 -- ---- a new image (added: document 01 has a host pass images, and does not say where it gets its first)
 
 -- what the host gets, and the image then
-pub record Made : Type 0 where
+pub record FirstImage : Type 0 where
   pub returned : ℕ
   pub image : List ℕ
 
-abbrev pub made : ℕ → List ℕ → Made
-made n image = record { returned = n; image = image }
+abbrev pub firstImage : ℕ → List ℕ → FirstImage
+firstImage n image = record { returned = n; image = image }
 
 -- the image of "New"; 7 "image not 3,275 bytes", which is left as it was
-unfoldable pub hostNew : List ℕ → Made
-hostNew image = cond (eqb (length image) imageLength) (made 0 (imageOf newState)) (made (refusalReturned WrongLength) image)
+unfoldable pub hostNew : List ℕ → FirstImage
+hostNew image = cond (eqb (length image) imageLength) (firstImage 0 (imageOf newState)) (firstImage (refusalReturned WrongLength) image)
 
 -- ---- a frame on an image
 

@@ -13,10 +13,10 @@ use Rattle.records.specs.declared.state.StateOption.the-variants as state
 use Rattle.records.specs.declared.state.ThreadState.{ThreadState}
 use Rattle.records.specs.declared.task.TaskControlBlock.{TaskControlBlock}
 use Rattle.records.specs.Band.{bandCode, codedBand}
-use Rattle.records.specs.State.{codedState}
+use Rattle.records.specs.Lists.{Each}
+use Rattle.records.specs.ThreadState.{codedState}
 use Rattle.records.specs.Task.{emptyRecord}
-use Rattle.queue.specs.Rules.{places}
-use Rattle.rules.specs.Accepted.{Each}
+use Rattle.queue.specs.Entries.{places}
 use Rattle.rules.specs.Paper.{recordNumbers}
 use Rattle.rules.specs.State.{State, Queues}
 use Rattle.frames.specs.Answer.{recordWidths, recordBytes}
@@ -89,8 +89,8 @@ abbrev pub stateOf : ℕ → ThreadState
 stateOf code = orEmptyState (codedState code)
 
 -- a record from its ten numbers, which stand in the paper's order
-abbrev pub recordOf : List ℕ → TaskControlBlock
-recordOf numbers = record {
+abbrev pub recordFrom : List ℕ → TaskControlBlock
+recordFrom numbers = record {
   tid = record { 0 = getD numbers 0 0 };
   qos = bandOf (getD numbers 1 0);
   state = stateOf (getD numbers 2 0);
@@ -105,7 +105,7 @@ recordOf numbers = record {
 
 -- the record that 47 bytes stand for
 unfoldable pub recordIn : List ℕ → TaskControlBlock
-recordIn bytes = recordOf (numbersAt 0 recordWidths bytes)
+recordIn bytes = recordFrom (numbersAt 0 recordWidths bytes)
 
 -- the first n records
 unfoldable pub recordsIn : ℕ → List ℕ → List TaskControlBlock

@@ -6,8 +6,7 @@ use Prim.Native.Nat.{ℕ, _+_, _≤_, _<_}
 use lib.Dec.{eqb}
 use lib.ListN.{length, getD}
 use Rattle.records.specs.declared.band.QoSClass.{QoSClass}
-use Rattle.queue.specs.Rules.{count}
-use Rattle.rules.specs.Accepted.{every}
+use Rattle.records.specs.Lists.{every, count}
 use Rattle.rules.specs.State.{State, Queues, ofBand}
 use Rattle.frames.specs.Fits.{HasImage}
 use Rattle.frames.specs.Image.{imageLength, queueAt, lengthByte, imageOf}

@@ -1,5 +1,5 @@
 -- Text that comes in blocks of any size, answered into buffers of any size: what is fed to a stream, and what comes back. Document 01 does not speak
--- of blocks; what they are for is that the answers are those to the lines of the whole text, which TextClaim.antt says.
+-- of blocks; what they are for is that the answers are those to the lines of the whole text, which is claimed above (crate claims, specs/TextClaim).
 use mathlib.Core.Bool.{Bool, true, false, cond, _&&_}
 use mathlib.Core.List.{List, [], _∷_, _++_}
 use mathlib.Core.Path.{_≡_}
@@ -29,7 +29,7 @@ longestAnswer = 103
 abbrev pub heldOf : List ℕ → List ℕ
 heldOf line = take (longestLine + 1) line
 
-pub record Reached : Type 0 where
+pub record FedSoFar : Type 0 where
   -- the answers
   pub text : List ℕ
   -- how many bytes of the block are done with
@@ -41,24 +41,24 @@ pub record Reached : Type 0 where
   pub full : Bool
 
 -- nothing more is answered
-abbrev pub waits : Bool → State → List ℕ → Reached
+abbrev pub waits : Bool → State → List ℕ → FedSoFar
 waits full s held = record { text = []; used = 0; state = s; held = held; full = full }
 
 -- this answer before the others
-abbrev pub answering : List ℕ → Reached → Reached
+abbrev pub answering : List ℕ → FedSoFar → FedSoFar
 answering text r = record { text = text ++ r .text; used = r .used; state = r .state; held = r .held; full = r .full }
 
 -- one more byte of the block
-abbrev pub pastByte : Reached → Reached
+abbrev pub pastByte : FedSoFar → FedSoFar
 pastByte r = record { text = r .text; used = suc (r .used); state = r .state; held = r .held; full = r .full }
 
 -- the line that is held is at its end: it is answered and then comes what follows, unless its answer has no room
-abbrev pub ended : ℕ → State → List ℕ → Reached → Reached
+abbrev pub ended : ℕ → State → List ℕ → FedSoFar → FedSoFar
 ended room s held next = cond (leb (length (answerTo held s)) room) (answering (answerTo held s) next) (waits true s held)
 
 -- The bytes of a block, one after the other: a newline ends the line that is held, any other byte goes on with it. The end of the block ends it only
 -- where the block is the last, and where there is a line at all.
-unfoldable pub fed : Bool → ℕ → State → List ℕ → List ℕ → Reached
+unfoldable pub fed : Bool → ℕ → State → List ℕ → List ℕ → FedSoFar
 fed last room s held [] = cond (last && some held) (ended room s held (waits false (stateAfter held s) [])) (waits false s held)
 fed last room s held (b ∷ block) =
     cond (eqb b newline)
@@ -84,20 +84,20 @@ pub record Begins (s : QoSScheduler) (stream : Stream) : Type 0 where
   pub held-is : heldIn stream ≡ []
 
 -- what a block makes of a stream, with so much room
-abbrev pub reachedBy : Bool → Stream → List ℕ → ℕ → Reached
-reachedBy last stream block room = fed last room (abs (stream .state)) (heldIn stream) block
+abbrev pub fedBy : Bool → Stream → List ℕ → ℕ → FedSoFar
+fedBy last stream block room = fed last room (abs (stream .state)) (heldIn stream) block
 
 -- A block fed to a stream: what is reached stands in the stream, its text at the front of the buffer, and behind that the buffer is as it was.
 -- `written-in` follows from the other fields and stands there for callers.
 pub record Feeds (last : Bool) (stream : Stream) (block before after : List ℕ) (r : Fed) : Type 0 where
   pub valid : ValidStream (r .stream)
-  pub state-is : abs (r .stream .state) ≡ reachedBy last stream block (length before) .state
-  pub held-is : heldIn (r .stream) ≡ reachedBy last stream block (length before) .held
-  pub used-is : r .used ≡ reachedBy last stream block (length before) .used
-  pub full-is : r .«is_full» ≡ reachedBy last stream block (length before) .full
-  pub written-is : r .written ≡ length (reachedBy last stream block (length before) .text)
+  pub state-is : abs (r .stream .state) ≡ fedBy last stream block (length before) .state
+  pub held-is : heldIn (r .stream) ≡ fedBy last stream block (length before) .held
+  pub used-is : r .used ≡ fedBy last stream block (length before) .used
+  pub full-is : r .«is_full» ≡ fedBy last stream block (length before) .full
+  pub written-is : r .written ≡ length (fedBy last stream block (length before) .text)
   pub written-in : r .written ≤ length before
-  pub buffer-is : after ≡ sets before 0 (reachedBy last stream block (length before) .text)
+  pub buffer-is : after ≡ sets before 0 (fedBy last stream block (length before) .text)
 
 -- ---- what the private parts promise
 
@@ -110,7 +110,7 @@ abbrev pub PutsLine : List ℕ → ℕ → List ℕ → List ℕ → ℕ → Typ
 PutsLine bytes at before after r = Puts (fitting (length before - at) (lineText bytes)) at before after r
 
 -- so many bytes are held of a line, and now more of it
-pub record Holds (len : ℕ) (line before after : List ℕ) (r : ℕ) : Type 0 where
+pub record HoldsLine (len : ℕ) (line before after : List ℕ) (r : ℕ) : Type 0 where
   pub within : r ≤ longestLine + 1
   pub places : length after ≡ longestLine + 1
   pub held-is : take r after ≡ heldOf (take len before ++ line)

@@ -5,7 +5,7 @@ ghost use mathlib.Core.Bool.{_&&_, _||_};
 ghost use lib.Dec.{eqb};
 ghost use Rattle.records.specs.declared.state.ThreadState.the-variants.{Ready, Terminated};
 ghost use Rattle.records.specs.Band.{slice};
-ghost use Rattle.records.specs.State.{isState};
+ghost use Rattle.records.specs.ThreadState.{isState};
 ghost use Rattle.rules.specs.Accepted.{recordFits, mayHold};
 ghost use Rattle.frames.specs.Image.{recordIn};
 ghost use Rattle.frames.specs.AcceptedImage.{codesFit};

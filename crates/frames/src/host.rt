@@ -1,7 +1,7 @@
 // What a host kernel calls: a new image, and a frame on an image with its answer in a buffer; and any call on an image.
 ghost use mathlib.Core.Path.{_≡_};
 ghost use Rattle.frames.specs.AcceptedImage.{AcceptedImage};
-ghost use Rattle.frames.specs.Host.{refusalReturned, refusalOf, onImage, callOnImage, CalledOn, made, hostNew, hosted, hostStep};
+ghost use Rattle.frames.specs.Host.{refusalReturned, refusalOf, onImage, callOnImage, CalledOn, firstImage, hostNew, hosted, hostStep};
 use crate::decode::CallOption;
 use crate::decode::read_frame;
 use crate::encode::ANSWER_MAX;
@@ -34,7 +34,7 @@ const REFUSED: u64 = 256;
 // will do. All IMAGE_BYTES of them are written; bytes of any other number are left as they were.
 #[no_mangle]
 pub extern "C" fn new_image(image: &mut [u8]) -> u64
-    ensures { λ r. ⌜ made r (now (image .exit)) ≡ hostNew (now (image .entry)) ⌝ }
+    ensures { λ r. ⌜ firstImage r (now (image .exit)) ≡ hostNew (now (image .entry)) ⌝ }
 {
     if write_image(QoSScheduler::new(), image) {
         0

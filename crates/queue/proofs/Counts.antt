@@ -9,7 +9,8 @@ use lib.Dec.{eqb}
 use lib.ListN.{length, getD, take, drop}
 use lib.Seq.{split-at}
 use Rattle.records.proofs.Cases.{split}
-use Rattle.queue.specs.Rules.{without, takenAt, count}
+use Rattle.records.specs.Lists.{count}
+use Rattle.queue.specs.Entries.{without, takenAt}
 
 pub count-append : (slot : ℕ) (a b : List ℕ) → count slot (a ++ b) ≡ count slot a + count slot b
 unfolding count

@@ -9,9 +9,9 @@ use lib.Seq.{set-append-seam, append-snoc}
 use Rattle.records.specs.declared.ids.Slot.{Slot}
 use Rattle.records.specs.declared.ids.SlotOption.the-variants.{None, Some}
 use Rattle.queue.specs.declared.BandQueue.{BandQueue}
-use Rattle.queue.specs.Rules.{entryAt, places}
+use Rattle.queue.specs.Entries.{entryAt, places}
 use Rattle.queue.specs.Stored.{entries, window}
-use Rattle.queue.proofs.Rules.{entryAt-in, entryAt-past}
+use Rattle.queue.proofs.Entries.{entryAt-in, entryAt-past}
 use Rattle.queue.proofs.Ring.{length-window, window-at, window-more}
 
 module _ (q : BandQueue) where

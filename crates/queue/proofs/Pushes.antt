@@ -8,10 +8,10 @@ use borrow.Author.Tests.{le-ltb, le-leb, lt-leb}
 use lib.ListN.{length, set, length-set}
 use Rattle.records.specs.declared.ids.Slot.{Slot}
 use Rattle.queue.specs.declared.BandQueue.{BandQueue}
-use Rattle.queue.specs.Answers.{Push}
-use Rattle.queue.specs.Rules.{takes}
+use Rattle.queue.specs.Contracts.{Push}
+use Rattle.queue.specs.Entries.{takes}
 use Rattle.queue.specs.Stored.{window, entries, WellFormed}
-use Rattle.queue.proofs.Rules.{takes-slot, pushed-taken, pushed-refused}
+use Rattle.queue.proofs.Entries.{takes-slot, pushed-taken, pushed-refused}
 use Rattle.queue.proofs.Ring.{window-store}
 use Rattle.queue.proofs.Places.{length-entries}
 

@@ -7,9 +7,9 @@ use native.Mathlib.Numerals.{add-one}
 use native.Mathlib.Omega.{arith}
 use lib.ListN.{length, getD, set, length-set}
 use Rattle.queue.specs.declared.BandQueue.{BandQueue}
-use Rattle.queue.specs.Rules.{without}
+use Rattle.queue.specs.Entries.{without}
 use Rattle.queue.specs.Stored.{window, entries, WellFormed, Holds}
-use Rattle.queue.proofs.Rules.{without-same, without-other}
+use Rattle.queue.proofs.Entries.{without-same, without-other}
 use Rattle.queue.proofs.Ring.{window-next, window-apart, window-store}
 
 -- the ring's entries from `place` on are still to be looked at, and of those before it `kept` were kept, at the front:

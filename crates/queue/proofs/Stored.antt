@@ -8,8 +8,8 @@ use lib.ListN.{length, getD, take, replicate}
 use lib.Seq.{ext-getD, getD-take, length-take-le, take-all, take-append-seam}
 use Rattle.queue.specs.declared.BandQueue.{BandQueue}
 use Rattle.queue.specs.Stored.{window, entries, Holds}
-use Rattle.queue.specs.Rules.{places}
-use Rattle.queue.proofs.Rules.{length-places}
+use Rattle.queue.specs.Entries.{places}
+use Rattle.queue.proofs.Entries.{length-places}
 use Rattle.queue.proofs.Ring.{length-window, window-at}
 
 -- from the ring's first place on

@@ -1,4 +1,4 @@
 -- What the contracts of `queue` cite.
-pub mod Answers
-pub mod Rules
+pub mod Contracts
+pub mod Entries
 pub mod Stored

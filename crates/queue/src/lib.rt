@@ -2,13 +2,13 @@
 //
 // What a queue holds is `entries`, its slots from front to tail; every promise below speaks of that list alone. A call
 // presumes at most that the queue is well formed, as `new` and every call here leave it. The laws for the crates above
-// are in proofs/Rules.antt, Counts.antt and Stored.antt.
+// are in proofs/Entries.antt, Counts.antt and Stored.antt.
 ghost use mathlib.Core.Path.{_≡_};
 ghost use lib.ListN.{length, take};
 ghost use mathlib.Core.List.{[]};
 ghost use Rattle.queue.specs.Stored.{entries, WellFormed, Holds};
-ghost use Rattle.queue.specs.Rules.{entryAt, without, places};
-ghost use Rattle.queue.specs.Answers.{Push, Take};
+ghost use Rattle.queue.specs.Entries.{entryAt, without, places};
+ghost use Rattle.queue.specs.Contracts.{Push, Take};
 use records::MAX_TASKS;
 use records::Slot;
 use records::SlotOption;

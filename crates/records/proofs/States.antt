@@ -9,7 +9,7 @@ use lib.ListN.{List·getD-eq-default}
 use Rattle.records.specs.declared.state.ThreadState.{ThreadState}
 use Rattle.records.specs.declared.state.ThreadState.the-variants.{Ready, Running, Blocked, Terminated}
 use Rattle.records.specs.declared.state.StateOption.the-variants as state
-use Rattle.records.specs.State.{stateCode, states, codedState, isState}
+use Rattle.records.specs.ThreadState.{stateCode, states, codedState, isState}
 
 pub stateCode-small : (s : ThreadState) → stateCode s < 4
 stateCode-small Ready = omega arith

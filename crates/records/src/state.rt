@@ -1,6 +1,6 @@
 // What a task is doing, with the codes of the record's byte.
 ghost use mathlib.Core.Path.{_≡_};
-ghost use Rattle.records.specs.State.{stateCode, codedState, isState};
+ghost use Rattle.records.specs.ThreadState.{stateCode, codedState, isState};
 
 pub enum ThreadState {
     // Waits in its band's queue.

@@ -9,7 +9,7 @@ use borrow.Author.Tests.{eq-eqb, ne-eqb}
 use lib.Dec.{eqb}
 use lib.ListN.{length, getD, drop, drop-of-length-le}
 use lib.Seq.{drop-cons}
-use Rattle.replay.specs.Stored.{any, fits, asStored}
+use Rattle.replay.specs.Comparing.{any, fits, asStored}
 
 and-false : (b : Bool) {c : Bool} → false ≡ c → false ≡ b && c
 and-false true e = e

@@ -1,6 +1,6 @@
 -- Laws about the definitions of specs/.
 --
 --   Comparing   the loop that compares an answer with a stored one
---   Counting    what a line adds to the counts
+--   Counted     what a line adds to the counts
 mod Comparing
-mod Counting
+mod Counted

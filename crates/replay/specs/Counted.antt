@@ -10,7 +10,7 @@ use Rattle.rules.specs.State.{newState}
 use Rattle.frames.specs.declared.stream.Fed.{Fed}
 use Rattle.frames.specs.Stream.{heldIn, ValidStream, Feeds}
 use Rattle.replay.specs.declared.Replay.{Replay}
-use Rattle.replay.specs.Stored.{asStored}
+use Rattle.replay.specs.Comparing.{asStored}
 
 pub record Counts : Type 0 where
   pub lists : ℕ

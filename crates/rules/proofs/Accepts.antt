@@ -4,13 +4,13 @@ use mathlib.Core.Bool.{true}
 use mathlib.Core.Logic.{Iff·trans}
 use Rattle.rules.specs.State.{State, task, queue}
 use Rattle.rules.specs.Accepted.{Accepted, accepts}
-use Rattle.rules.proofs.Says.{Says, equal, less, at-most, same, same-state, both, either, never, implies, below, each, bands, ready-of, may-hold}
+use Rattle.rules.proofs.Says.{Says, equal, less, at-most, same-flag, same-state, both, either, never, implies, below, each, bands, ready-of, may-hold}
 
 accepted : (s : State) → Says (accepts s) (Accepted s)
 unfolding accepts
 accepted s =
     Iff·trans (both (both (both (both (both equal equal)
-    (below (λ _. both (both (both same (never equal)) (either equal equal)) less)))
+    (below (λ _. both (both (both same-flag (never equal)) (either equal equal)) less)))
     (bands (λ q. both at-most (each (λ slot. ready-of q (task s slot)) 0 (queue s q)))))
     (below (λ _. implies same-state equal)))
     (below (λ _. either equal may-hold))) (

@@ -7,12 +7,13 @@ use Prim.Native.Nat.{ℕ, _<_}
 use native.Mathlib.Omega.{arith}
 use Rattle.records.specs.declared.band.QoSClass.{QoSClass}
 use Rattle.records.specs.declared.state.ThreadState.the-variants.{Ready}
-use Rattle.records.specs.State.{isState}
-use Rattle.queue.specs.Rules.{count, full}
+use Rattle.records.specs.ThreadState.{isState}
+use Rattle.records.specs.Lists.{every, everyBelow, count}
+use Rattle.queue.specs.Entries.{full}
 use Rattle.rules.specs.declared.call.Call.{Call}
 use Rattle.rules.specs.declared.answer.PickOption.{PickOption}
 use Rattle.rules.specs.State.{State, newState, task, queue}
-use Rattle.rules.specs.Accepted.{Accepted, every, everyBelow, accepts}
+use Rattle.rules.specs.Accepted.{Accepted, accepts}
 use Rattle.rules.specs.Picking.{ruleP}
 use Rattle.rules.specs.Step.{step, run}
 use Rattle.rules.specs.Took.{Reach, reaches, takenBy, Carries}

@@ -19,8 +19,9 @@ use Rattle.records.specs.declared.state.ThreadState.{ThreadState}
 use Rattle.records.specs.declared.state.ThreadState.the-variants.{Ready, Running, Blocked, Terminated}
 use Rattle.records.specs.declared.task.TaskControlBlock.{TaskControlBlock}
 use Rattle.records.specs.Band.{slice}
+use Rattle.records.specs.Lists.{anyOf}
 use Rattle.records.specs.Mask.{storedMask}
-use Rattle.records.specs.State.{isState}
+use Rattle.records.specs.ThreadState.{isState}
 use Rattle.records.specs.Task.{emptyRecord, created, withState, withMask, withConsumed, terminated, blocked}
 use Rattle.records.proofs.Bands.{slice-positive}
 use Rattle.records.proofs.Cases.{split, by-if, neither}
@@ -33,7 +34,7 @@ use Rattle.rules.specs.Outcome.{Outcome, done}
 use Rattle.rules.specs.Picking.{permitted}
 use Rattle.rules.specs.Waking.{freeSlot, released, outOfHolders, outOfQueues, afterTerminate, missing, enqueued, enqueue}
 use Rattle.rules.specs.Ticking.{waitsBefore, charged, sliceOver, cleared, requeued}
-use Rattle.rules.specs.Took.{anyOf, earlierWaits, switches, backToQueue, outOfSlice}
+use Rattle.rules.specs.Took.{earlierWaits, switches, backToQueue, outOfSlice}
 use Rattle.rules.proofs.Invariant.{Good, Invariant, due-idle, used-in-table, never-full}
 use Rattle.rules.proofs.Lists.{firstPlace-passes, any-first}
 use Rattle.rules.proofs.Moves.{waits-elsewhere, Harmless, stay, then, put, holder-may, to-tail, out, holders, hold}

@@ -16,20 +16,18 @@ use Rattle.records.specs.declared.state.ThreadState.{ThreadState}
 use Rattle.records.specs.declared.state.ThreadState.the-variants.{Ready, Terminated}
 use Rattle.records.specs.declared.task.TaskControlBlock.{TaskControlBlock}
 use Rattle.records.specs.Band.{bandCode, slice}
-use Rattle.records.specs.State.{isState}
+use Rattle.records.specs.Lists.{count}
+use Rattle.records.specs.ThreadState.{isState}
 use Rattle.records.specs.Task.{emptyRecord}
 use Rattle.records.proofs.Cases.{split}
-use Rattle.queue.specs.Rules.{count, full}
+use Rattle.queue.specs.Entries.{full}
 use Rattle.queue.proofs.Counts.{count-entry}
 use Rattle.rules.specs.State.{State, noneByte, task, queue, holder}
-use Rattle.rules.specs.Accepted.{Accepted, ReadyOf, MayHold, standings, readyOf}
+use Rattle.rules.specs.Accepted.{Accepted, ReadyOf, MayHold, standings, readyOf, due}
 use Rattle.rules.proofs.Lists.{count-place, bounded, room}
 use Rattle.rules.proofs.Says.{ready-of}
 
 -- ---- how often a record asks to stand in a band's queue
-
-abbrev pub due : QoSClass → TaskControlBlock → ℕ
-due band t = cond (readyOf band t) 1 0
 
 pub due-small : (band : QoSClass) (t : TaskControlBlock) → due band t ≤ 1
 due-small band t = split (λ (b : Bool). cond b 1 0 ≤ 1) (readyOf band t) (λ _. omega arith) (λ _. omega arith)

@@ -8,11 +8,12 @@ use lib.ListN.{replicate}
 use Rattle.records.specs.declared.band.QoSClass.{QoSClass}
 use Rattle.records.specs.declared.band.QoSClass.the-variants.{UserInteractive, RealTimeIO, Background}
 use Rattle.records.specs.declared.ids.Slot.{Slot}
-use Rattle.records.specs.State.{stateCode}
-use Rattle.queue.specs.Rules.{pushed, without, entryAt, takenAt}
+use Rattle.records.specs.ThreadState.{stateCode}
+use Rattle.queue.specs.Entries.{pushed, without, entryAt, takenAt}
 use Rattle.rules.specs.declared.call.Call.{Call}
 use Rattle.rules.specs.declared.call.Call.the-variants.{Create, Affinity, Block, Wake, Enqueue, Schedule, Tick, Yield, Handoff}
-use Rattle.rules.specs.State.{State, newState, task, queue, holder, firstPlace}
+use Rattle.records.specs.Lists.{firstPlace}
+use Rattle.rules.specs.State.{State, newState, task, queue, holder}
 use Rattle.rules.specs.Picking.{choice, ruleP, schedule}
 use Rattle.rules.specs.Waking.{create, affinity, block, wake, enqueue}
 use Rattle.rules.specs.Ticking.{ticked, tick, yield, handoff}

@@ -10,10 +10,9 @@ use borrow.Author.Tests.{eqb-true, eqb-false, ne-eqb, lt-ltb}
 use lib.Dec.{ltb, eqb, leb·suc-suc}
 use lib.ListN.{length, getD}
 use Rattle.records.proofs.Cases.{split}
-use Rattle.queue.specs.Rules.{count, without}
+use Rattle.records.specs.Lists.{anyOf, firstPlace, count}
+use Rattle.queue.specs.Entries.{without}
 use Rattle.queue.proofs.Counts.{count-append, count-one, count-other, count-entry, count-without-same, count-without-le, length-without}
-use Rattle.rules.specs.State.{firstPlace}
-use Rattle.rules.specs.Took.{anyOf}
 use Rattle.rules.specs.Stretch.{before}
 
 -- ---- the first place that passes

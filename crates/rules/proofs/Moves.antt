@@ -11,16 +11,17 @@ use lib.ListN.{length, getD, set, length-set}
 use Rattle.records.specs.declared.band.QoSClass.{QoSClass}
 use Rattle.records.specs.declared.state.ThreadState.the-variants.{Ready}
 use Rattle.records.specs.declared.task.TaskControlBlock.{TaskControlBlock}
-use Rattle.records.specs.State.{isState}
+use Rattle.records.specs.ThreadState.{isState}
 use Rattle.records.specs.Task.{emptyRecord, withState}
-use Rattle.queue.specs.Rules.{count, pushed, without}
+use Rattle.records.specs.Lists.{count}
+use Rattle.queue.specs.Entries.{pushed, without}
 use Rattle.queue.proofs.Counts.{count-append, count-one, count-other, count-without-same, count-without-other}
-use Rattle.queue.proofs.Rules.{takes-slot, pushed-taken}
+use Rattle.queue.proofs.Entries.{takes-slot, pushed-taken}
 use Rattle.rules.specs.State.{State, Queues, noneByte, task, ofBand, withBand, eachQueue, queue, holder, withTask, withQueues, withHolders, withHolder, withMicros}
-use Rattle.rules.specs.Accepted.{MayHold}
+use Rattle.rules.specs.Accepted.{MayHold, due}
 use Rattle.rules.specs.Waking.{enqueued, outOfQueues}
 use Rattle.rules.specs.Stretch.{before}
-use Rattle.rules.proofs.Invariant.{Good, Invariant, due, due-ready, due-not, due-idle, not-both, never-full, used-in-table}
+use Rattle.rules.proofs.Invariant.{Good, Invariant, due-ready, due-not, due-idle, not-both, never-full, used-in-table}
 use Rattle.rules.proofs.Lists.{before-append, before-without}
 use Rattle.rules.proofs.Parts.{each-set, each-queue, ofBand-each}
 

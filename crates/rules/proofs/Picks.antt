@@ -16,13 +16,14 @@ use Rattle.records.specs.declared.ids.SlotOption.the-variants as slot
 use Rattle.records.specs.declared.state.ThreadState.{ThreadState}
 use Rattle.records.specs.declared.state.ThreadState.the-variants.{Terminated}
 use Rattle.records.specs.Band.{bandCode}
-use Rattle.records.specs.State.{isState}
+use Rattle.records.specs.Lists.{count}
+use Rattle.records.specs.ThreadState.{isState}
 use Rattle.records.specs.Task.{emptyRecord, picked}
 use Rattle.records.proofs.Bands.{slice-positive}
 use Rattle.records.proofs.Cases.{split}
-use Rattle.queue.specs.Rules.{count, takenAt}
+use Rattle.queue.specs.Entries.{takenAt}
 use Rattle.queue.proofs.Counts.{count-one, count-other, count-taken, count-entry}
-use Rattle.queue.proofs.Rules.{entryAt-some, entryAt-none, takenAt-cut}
+use Rattle.queue.proofs.Entries.{entryAt-some, entryAt-none, takenAt-cut}
 use Rattle.rules.specs.declared.answer.Pick.{Pick}
 use Rattle.rules.specs.declared.answer.PickOption.{PickOption}
 use Rattle.rules.specs.declared.answer.PickOption.the-variants as pick

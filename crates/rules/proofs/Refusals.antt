@@ -12,9 +12,9 @@ use Rattle.records.specs.declared.ids.SlotOption.the-variants as slot
 use Rattle.records.specs.declared.state.ThreadState.{ThreadState}
 use Rattle.records.specs.declared.state.ThreadState.the-variants.{Ready, Running, Blocked, Terminated}
 use Rattle.records.specs.Error.{errorCode}
-use Rattle.records.specs.State.{isState}
+use Rattle.records.specs.ThreadState.{isState}
 use Rattle.records.proofs.Cases.{by-if}
-use Rattle.queue.specs.Rules.{full}
+use Rattle.queue.specs.Entries.{full}
 use Rattle.rules.specs.declared.call.Call.{Call}
 use Rattle.rules.specs.declared.call.Call.the-variants.{Create, Affinity, Terminate, Block, Wake, Enqueue, Schedule, Tick, Yield, Handoff, Plan, CanRunOnCore, TaskIndexForTid, Task, CurrentTaskOnCpu, SystemTicksUs, Holder}
 use Rattle.rules.specs.declared.answer.Status.{Status}

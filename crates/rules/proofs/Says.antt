@@ -14,12 +14,13 @@ use Rattle.records.specs.declared.band.QoSClass.the-variants.{UserInteractive, 
 use Rattle.records.specs.declared.state.ThreadState.{ThreadState}
 use Rattle.records.specs.declared.task.TaskControlBlock.{TaskControlBlock}
 use Rattle.records.specs.Band.{bandCode}
-use Rattle.records.specs.State.{isState}
+use Rattle.records.specs.Lists.{Each, every, everyBelow}
+use Rattle.records.specs.ThreadState.{isState}
 use Rattle.records.proofs.Bands.{bandCode-one}
 use Rattle.records.proofs.Cases.{split}
 use Rattle.records.proofs.States.{isState-true, isState-same}
 use Rattle.rules.specs.State.{bandOrder}
-use Rattle.rules.specs.Accepted.{Each, ReadyOf, MayHold, every, everyBelow, readyOf, mayHold}
+use Rattle.rules.specs.Accepted.{ReadyOf, MayHold, readyOf, mayHold}
 
 -- the test passes exactly where P holds
 abbrev pub Says : Bool → Type 0 → Type 0
@@ -36,11 +37,11 @@ less {a} {b} = (ltb-true a b, lt-ltb a b)
 pub at-most : {a b : ℕ} → Says (leb a b) (a ≤ b)
 at-most {a} {b} = (leb-true a b, le-leb a b)
 
-pub same : {a b : Bool} → Says (Bool·beq a b) (a ≡ b)
-same {a = true} {b = true} = (λ _. refl, λ _. refl)
-same {a = true} {b = false} = (sym, sym)
-same {a = false} {b = true} = Iff·rfl
-same {a = false} {b = false} = (λ _. refl, λ _. refl)
+pub same-flag : {a b : Bool} → Says (Bool·beq a b) (a ≡ b)
+same-flag {a = true} {b = true} = (λ _. refl, λ _. refl)
+same-flag {a = true} {b = false} = (sym, sym)
+same-flag {a = false} {b = true} = Iff·rfl
+same-flag {a = false} {b = false} = (λ _. refl, λ _. refl)
 
 pub same-state : {a b : ThreadState} → Says (isState a b) (a ≡ b)
 same-state {a} {b} = (isState-true a b, λ e. rw e (isState-same b))
@@ -66,8 +67,8 @@ implies {a = true} p q = (λ e _. q .0 e, λ f. q .1 (f (p .0 refl)))
 implies {a = false} p q = (λ _ h. absurd (false≢true (p .1 h)), λ _. refl)
 
 -- one of two tests, as a number is below another or not
-pub within : {i n : ℕ} {b c : Bool} {P Q : Type 0} → Says b P → Says c Q → Says (cond (ltb i n) b c) ((i < n → P) × (n ≤ i → Q))
-within {i} {n} {b} {c} {P} {Q} p q =
+pub by-place : {i n : ℕ} {b c : Bool} {P Q : Type 0} → Says b P → Says c Q → Says (cond (ltb i n) b c) ((i < n → P) × (n ≤ i → Q))
+by-place {i} {n} {b} {c} {P} {Q} p q =
     split (λ (t : Bool). Says (cond t b c) ((i < n → P) × (n ≤ i → Q))) (ltb i n)
     (λ is. let low : i < n = ltb-true i n is in (λ e. (λ _. p .0 e, λ past. absurd (omega arith)), λ f. p .1 (f .0 low)))
     (λ no. let past : n ≤ i = ltb-false i n no in (λ e. (λ low. absurd (omega arith), λ _. q .0 e), λ f. q .1 (f .1 past)))

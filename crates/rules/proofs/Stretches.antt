@@ -14,11 +14,11 @@ use Rattle.rules.specs.declared.call.Call.the-variants.{Create, Affinity
 use Rattle.rules.specs.declared.answer.Pick.{Pick}
 use Rattle.rules.specs.declared.answer.PickOption.{PickOption}
 use Rattle.rules.specs.declared.answer.PickOption.the-variants as pick
-use Rattle.rules.specs.Accepted.{Each}
+use Rattle.records.specs.Lists.{Each, butLast}
 use Rattle.rules.specs.State.{State, task}
 use Rattle.rules.specs.Step.{step, run}
 use Rattle.rules.specs.Stretch.{Event, eventOf, events, Concern, changes, names, concern, breaksFor, breaks, isPick, picks, stretch, stretchOf}
-use Rattle.rules.specs.Longest.{Breaking, blocks, terminates, sets-mask, names-forbidden, Ended, with-pick, before-break, with-list, butLast, Longest, Names, by-schedule, by-tick, by-yield, by-handoff, by-plan, Query, can-run, index-for, record-of, current, microseconds, held-by}
+use Rattle.rules.specs.Longest.{Breaking, blocks, terminates, sets-mask, names-forbidden, Ended, with-pick, before-break, with-list, Longest, Names, by-schedule, by-tick, by-yield, by-handoff, by-plan, Query, can-run, index-for, record-of, current, microseconds, held-by}
 
 -- ---- which calls break X's conditions
 

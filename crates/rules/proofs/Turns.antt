@@ -10,10 +10,11 @@ use lib.Dec.{ltb, leb, eqb}
 use Rattle.records.specs.declared.band.QoSClass.{QoSClass}
 use Rattle.records.specs.declared.state.ThreadState.the-variants.{Ready}
 use Rattle.records.specs.Band.{bandCode}
+use Rattle.records.specs.Lists.{count}
 use Rattle.records.specs.Mask.{permits}
 use Rattle.records.proofs.Bands.{bandCode-one}
 use Rattle.records.proofs.Cases.{split}
-use Rattle.queue.specs.Rules.{count, takenAt}
+use Rattle.queue.specs.Entries.{takenAt}
 use Rattle.rules.specs.declared.call.Call.{Call}
 use Rattle.rules.specs.declared.answer.Pick.{Pick}
 use Rattle.rules.specs.declared.answer.PickOption.{PickOption}
@@ -23,7 +24,7 @@ use Rattle.rules.specs.Picking.{permitted, placeFor, firstPermitted, aft
 use Rattle.rules.specs.Step.{step}
 use Rattle.rules.specs.Took.{Reach}
 use Rattle.rules.specs.Stretch.{eventOf, Concern, changes, names, concern, breaksFor, isPick, othersIn, before}
-use Rattle.rules.specs.Demand3.{SchedulePicks}
+use Rattle.rules.specs.Waiting.{SchedulePicks}
 use Rattle.rules.proofs.Course.{Course, quiet, reaching, course}
 use Rattle.rules.proofs.Invariant.{Invariant}
 use Rattle.rules.proofs.Moves.{Alike, Undisturbed, in-queue}

@@ -8,17 +8,17 @@ use lib.Dec.{eqb}
 use Rattle.records.specs.declared.band.QoSClass.{QoSClass}
 use Rattle.records.specs.declared.state.ThreadState.the-variants.{Ready}
 use Rattle.records.specs.Band.{bandCode}
+use Rattle.records.specs.Lists.{Each, count}
 use Rattle.records.proofs.Cases.{split}
-use Rattle.queue.specs.Rules.{count}
 use Rattle.queue.proofs.Counts.{count-append}
 use Rattle.rules.specs.declared.call.Call.{Call}
 use Rattle.rules.specs.declared.answer.PickOption.{PickOption}
 use Rattle.rules.specs.declared.answer.PickOption.the-variants as pick
 use Rattle.rules.specs.State.{State, newState, task, queue}
-use Rattle.rules.specs.Accepted.{Accepted, Each}
+use Rattle.rules.specs.Accepted.{Accepted}
 use Rattle.rules.specs.Step.{step, run}
 use Rattle.rules.specs.Stretch.{Event, eventOf, events, breaks, isPick, picks, stretch, stretchOf, othersIn, others, before, ahead}
-use Rattle.rules.specs.Demand3.{SchedulePicks, NotBehind, Point, Claim}
+use Rattle.rules.specs.Waiting.{SchedulePicks, NotBehind, Point, Claim}
 use Rattle.rules.proofs.Calls.{new-accepted, call-invariant, run-invariant, carries}
 use Rattle.rules.proofs.Invariant.{Invariant, invariant-accepted, accepted-invariant, entry-once}
 use Rattle.rules.proofs.Lists.{sub-length, sub-count, before-cut}

@@ -4,10 +4,11 @@
 use mathlib.Core.Path.{_≡_, refl}
 use mathlib.Core.List.{List, [], _∷_, _++_, map}
 use Rattle.records.specs.declared.band.QoSClass.the-variants.{UserInteractive, Background}
-use Rattle.queue.specs.Rules.{pushed, entryAt, takenAt}
+use Rattle.queue.specs.Entries.{pushed, entryAt, takenAt}
 use Rattle.rules.specs.declared.call.Call.{Call}
 use Rattle.rules.specs.declared.call.Call.the-variants.{Wake, Enqueue, Block, Schedule, Tick, SystemTicksUs}
-use Rattle.rules.specs.State.{State, newState, firstPlace}
+use Rattle.records.specs.Lists.{firstPlace}
+use Rattle.rules.specs.State.{State, newState}
 use Rattle.rules.specs.Picking.{choice, ruleP, schedule}
 use Rattle.rules.specs.Waking.{create, wake, enqueue, block}
 use Rattle.rules.specs.Ticking.{ticked, tick}

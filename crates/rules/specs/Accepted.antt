@@ -1,10 +1,9 @@
 -- Document 01, "Task record, queues, holders": which states are accepted, as its list of conditions and as a test that computes. Codes and
 -- unused bytes are a matter of the image: a state has bands and states, and queues without unused places.
 use mathlib.Core.Path.{_≡_}
-use mathlib.Core.Bool.{Bool, true, not, _&&_, _||_, Bool·beq}
-use mathlib.Core.List.{List, [], _∷_}
+use mathlib.Core.Bool.{Bool, true, cond, not, _&&_, _||_, Bool·beq}
 use mathlib.Core.Logic.{_⊎_}
-use Prim.Native.Nat.{ℕ, zero, suc, _+_, _≤_, _<_}
+use Prim.Native.Nat.{ℕ, _+_, _≤_, _<_}
 use lib.Dec.{ltb, leb, eqb}
 use lib.ListN.{length, getD}
 use Rattle.records.specs.declared.band.QoSClass.{QoSClass}
@@ -12,14 +11,9 @@ use Rattle.records.specs.declared.band.QoSClass.the-variants.{UserInteractive, 
 use Rattle.records.specs.declared.state.ThreadState.the-variants.{Ready, Terminated}
 use Rattle.records.specs.declared.task.TaskControlBlock.{TaskControlBlock}
 use Rattle.records.specs.Band.{bandCode, slice}
-use Rattle.records.specs.State.{isState}
-use Rattle.queue.specs.Rules.{count}
+use Rattle.records.specs.Lists.{every, everyBelow, count}
+use Rattle.records.specs.ThreadState.{isState}
 use Rattle.rules.specs.State.{State, noneByte, bandOrder, task, queue, holder}
-
--- what holds of each element of a list
-unfoldable pub Each : {A : Type 0} → (A → Type 0) → List A → Type 0
-Each P [] = Unit
-Each P (a ∷ rest) = P a × Each P rest
 
 -- how often a slot stands in the queues
 abbrev pub standings : State → ℕ → ℕ
@@ -60,15 +54,6 @@ pub record Accepted (s : State) : Type 0 where
 
 -- ---- the test
 
--- every element of the list passes; every number below n passes
-unfoldable pub every : {A : Type 0} → (A → Bool) → List A → Bool
-every test [] = true
-every test (a ∷ rest) = test a && every test rest
-
-unfoldable pub everyBelow : ℕ → (ℕ → Bool) → Bool
-everyBelow zero test = true
-everyBelow (suc n) test = test n && everyBelow n test
-
 -- what is asked of a record alone
 abbrev pub recordFits : TaskControlBlock → Bool
 recordFits t =
@@ -79,6 +64,10 @@ recordFits t =
 
 abbrev pub readyOf : QoSClass → TaskControlBlock → Bool
 readyOf band t = isState (t .state) Ready && eqb (bandCode (t .qos)) (bandCode band)
+
+-- how often a slot stands in a band's queue, by its record: once where it is Ready and of that band, else not at all
+abbrev pub due : QoSClass → TaskControlBlock → ℕ
+due band t = cond (readyOf band t) 1 0
 
 abbrev pub queueFits : State → QoSClass → Bool
 queueFits s band = leb (length (queue s band)) 64 && every (λ slot. readyOf band (task s slot)) (queue s band)

@@ -7,7 +7,7 @@
 --   Queries    0b to 10                                  Step       all of them as one, and lists of calls
 --   Took       what P takes in a call                    Paper      an answer's numbers
 --   Touched    which records a call can change
---   Stretch    X's stretch, its picks, those before X    Demand3    what is claimed of every list
+--   Stretch    X's stretch, its picks, those before X    Waiting    what is claimed of every list
 --   Longest    what keeps the stretch from being cut short
 pub mod State
 pub mod Accepted
@@ -21,5 +21,5 @@ pub mod Took
 pub mod Paper
 pub mod Touched
 pub mod Stretch
-pub mod Demand3
+pub mod Waiting
 pub mod Longest

@@ -9,7 +9,7 @@ use Rattle.records.specs.declared.ids.Tid.{Tid}
 use Rattle.records.specs.Mask.{permits}
 use Rattle.rules.specs.declared.call.Call.{Call}
 use Rattle.rules.specs.declared.call.Call.the-variants.{Affinity, Terminate, Block, Schedule, Tick, Yield, Handoff, Plan, CanRunOnCore, TaskIndexForTid, Task, CurrentTaskOnCpu, SystemTicksUs, Holder}
-use Rattle.rules.specs.Accepted.{Each}
+use Rattle.records.specs.Lists.{Each, butLast}
 use Rattle.rules.specs.State.{task}
 use Rattle.rules.specs.Stretch.{Event}
 
@@ -40,12 +40,6 @@ pub data Ended (breaking picking : Event → Bool) (part rest : List Event) : Ty
   before-break : (e : Event) (more : List Event) → rest ≡ e ∷ more → breaking e ≡ true → Ended breaking picking part rest
   -- "or else with the list"
   with-list : rest ≡ [] → Ended breaking picking part rest
-
--- all of a list but its last element
-unfoldable pub butLast : List Event → List Event
-butLast [] = []
-butLast (e ∷ []) = []
-butLast (e ∷ next ∷ rest) = e ∷ butLast (next ∷ rest)
 
 -- the part of a list that "runs up to X's next pick, as long as no call" breaks it
 pub record Longest (breaking picking : Event → Bool) (es part : List Event) : Type 0 where

@@ -8,7 +8,7 @@ use Rattle.records.specs.declared.ids.SlotOption.the-variants as slot
 use Rattle.records.specs.declared.task.TaskControlBlock.{TaskControlBlock}
 use Rattle.records.specs.Band.{bandCode}
 use Rattle.records.specs.Error.{errorCode}
-use Rattle.records.specs.State.{stateCode}
+use Rattle.records.specs.ThreadState.{stateCode}
 use Rattle.rules.specs.declared.answer.Answer.{Answer}
 use Rattle.rules.specs.declared.answer.ContextSwitchTarget.{ContextSwitchTarget}
 use Rattle.rules.specs.declared.answer.ContextSwitchTarget.the-variants as target

@@ -9,11 +9,12 @@ use Rattle.records.specs.declared.ids.SlotOption.{SlotOption}
 use Rattle.records.specs.declared.ids.SlotOption.the-variants as slot
 use Rattle.records.specs.Mask.{permits}
 use Rattle.records.specs.Task.{picked}
-use Rattle.queue.specs.Rules.{entryAt, takenAt}
+use Rattle.queue.specs.Entries.{entryAt, takenAt}
 use Rattle.rules.specs.declared.answer.PickOption.{PickOption}
 use Rattle.rules.specs.declared.answer.PickOption.the-variants as pick
 use Rattle.rules.specs.declared.answer.Value.the-variants as value
-use Rattle.rules.specs.State.{State, noneByte, bandOrder, task, queue, firstPlace, withTask, withQueue, withHolder}
+use Rattle.records.specs.Lists.{firstPlace}
+use Rattle.rules.specs.State.{State, noneByte, bandOrder, task, queue, withTask, withQueue, withHolder}
 use Rattle.rules.specs.Outcome.{Outcome, Chosen, chosenAs}
 
 -- "whose mask has bit c"

@@ -11,7 +11,8 @@ use Rattle.rules.specs.declared.answer.CoreOption.the-variants as core
 use Rattle.rules.specs.declared.answer.TaskOption.{TaskOption}
 use Rattle.rules.specs.declared.answer.TaskOption.the-variants as task
 use Rattle.rules.specs.State as state
-use Rattle.rules.specs.State.{State, firstPlace, holderOf}
+use Rattle.records.specs.Lists.{firstPlace}
+use Rattle.rules.specs.State.{State, holderOf}
 use Rattle.rules.specs.Waking.{coreHolding}
 
 -- 0b `can_run_on_core`: "slot, core (taken modulo 64)"; "Slots of 64 and above give 00"
@@ -33,12 +34,12 @@ unfoldable pub taskAt : ℕ → State → TaskOption
 taskAt slot s = cond (leb 64 slot) task.None (task.Some (state.task s slot))
 
 -- 0e `current_task_on_cpu`: the holder's record; "such a core gives 00"
-abbrev pub recordOf : SlotOption → State → TaskOption
-recordOf slot.None s = task.None
-recordOf (slot.Some h) s = taskAt (h .0) s
+abbrev pub holderRecord : SlotOption → State → TaskOption
+holderRecord slot.None s = task.None
+holderRecord (slot.Some h) s = taskAt (h .0) s
 
 unfoldable pub currentTaskOnCpu : ℕ → State → TaskOption
-currentTaskOnCpu core s = cond (leb 64 core) task.None (recordOf (holderOf s core) s)
+currentTaskOnCpu core s = cond (leb 64 core) task.None (holderRecord (holderOf s core) s)
 
 -- 10 holder: "answered by the lowest core whose holder it is"; "Slots of 64 and above give [..] ff", slot 255 too: in a holder 255 means none
 abbrev pub coreBelow : ℕ → CoreOption

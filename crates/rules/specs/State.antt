@@ -1,7 +1,7 @@
 -- Document 01, "Task record, queues, holders": the scheduler's state, and the new one.
-use mathlib.Core.Bool.{Bool, cond}
+use mathlib.Core.Bool.{cond}
 use mathlib.Core.List.{List, [], _∷_}
-use Prim.Native.Nat.{ℕ, zero, suc}
+use Prim.Native.Nat.{ℕ}
 use lib.Dec.{eqb}
 use lib.ListN.{getD, set, replicate}
 use Rattle.records.specs.declared.band.QoSClass.{QoSClass}
@@ -67,11 +67,6 @@ holderIn number = cond (eqb number noneByte) slot.None (slot.Some (record { 0 = 
 
 abbrev pub holderOf : State → ℕ → SlotOption
 holderOf s core = holderIn (holder s core)
-
--- the place of the first element that passes the test, counted from 0; the length where none passes
-unfoldable pub firstPlace : {A : Type 0} → (A → Bool) → List A → ℕ
-firstPlace test [] = zero
-firstPlace test (a ∷ rest) = cond (test a) zero (suc (firstPlace test rest))
 
 -- ---- the state with one part changed, all else as it was
 

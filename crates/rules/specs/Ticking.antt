@@ -10,7 +10,7 @@ use Rattle.records.specs.declared.ids.SlotOption.{SlotOption}
 use Rattle.records.specs.declared.ids.SlotOption.the-variants as slot
 use Rattle.records.specs.declared.state.ThreadState.{ThreadState}
 use Rattle.records.specs.declared.state.ThreadState.the-variants.{Ready, Running, Blocked, Terminated}
-use Rattle.records.specs.State.{isState}
+use Rattle.records.specs.ThreadState.{isState}
 use Rattle.records.specs.Task.{withConsumed}
 use Rattle.rules.specs.declared.answer.ContextSwitchTarget.{ContextSwitchTarget}
 use Rattle.rules.specs.declared.answer.ContextSwitchTarget.the-variants.{Task, Idle}

@@ -2,8 +2,7 @@
 -- calls that name a core, beside those calls' own rules; of these only P itself and the small changes are used here (an enqueue, a cleared
 -- holder, the microseconds). proofs/Calls.antt shows that the two agree in every accepted state.
 use mathlib.Core.Path.{_≡_}
-use mathlib.Core.Bool.{Bool, false, cond, _&&_, _||_}
-use mathlib.Core.List.{List, [], _∷_}
+use mathlib.Core.Bool.{Bool, cond, _&&_, _||_}
 use Prim.Native.Nat.{ℕ, _+_}
 use lib.Dec.{ltb, leb}
 use Rattle.records.specs.declared.band.QoSClass.{QoSClass}
@@ -12,8 +11,9 @@ use Rattle.records.specs.declared.ids.SlotOption.the-variants as slot
 use Rattle.records.specs.declared.state.ThreadState.the-variants.{Ready, Running, Blocked}
 use Rattle.records.specs.Band.{bandCode}
 use Rattle.records.specs.Mask.{permits}
-use Rattle.records.specs.State.{isState}
+use Rattle.records.specs.ThreadState.{isState}
 use Rattle.records.specs.Task.{withConsumed}
+use Rattle.records.specs.Lists.{anyOf}
 use Rattle.rules.specs.declared.call.Call.{Call}
 use Rattle.rules.specs.declared.call.Call.the-variants.{Create, Affinity, Terminate, Block, Wake, Enqueue, Schedule, Tick, Yield, Handoff, Plan, CanRunOnCore, TaskIndexForTid, Task, CurrentTaskOnCpu, SystemTicksUs, Holder}
 use Rattle.rules.specs.declared.answer.PickOption.{PickOption}
@@ -33,11 +33,6 @@ pub data Reach : Type 0 where
 -- "Rule P, core c below 64"
 abbrev pub below : ℕ → Reach → Reach
 below core r = cond (leb 64 core) unreached r
-
--- some element of the list passes
-unfoldable pub anyOf : {A : Type 0} → (A → Bool) → List A → Bool
-anyOf test [] = false
-anyOf test (a ∷ rest) = test a || anyOf test rest
 
 -- "a permitted entry waits in an earlier band"
 abbrev pub earlierWaits : QoSClass → State → ℕ → Bool

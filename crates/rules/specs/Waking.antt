@@ -10,11 +10,12 @@ use Rattle.records.specs.declared.ids.Tid.{Tid}
 use Rattle.records.specs.declared.state.ThreadState.the-variants.{Ready, Running, Blocked}
 use Rattle.records.specs.declared.task.TaskControlBlock.{TaskControlBlock}
 use Rattle.records.specs.Mask.{storedMask}
-use Rattle.records.specs.State.{isState}
+use Rattle.records.specs.ThreadState.{isState}
 use Rattle.records.specs.Task.{created, withState, withMask, terminated, blocked}
-use Rattle.queue.specs.Rules.{full, pushed, without}
+use Rattle.queue.specs.Entries.{full, pushed, without}
 use Rattle.rules.specs.declared.answer.Value.the-variants as value
-use Rattle.rules.specs.State.{State, noneByte, task, queue, firstPlace, withTask, withQueue, withQueues, eachQueue, withHolders}
+use Rattle.records.specs.Lists.{firstPlace}
+use Rattle.rules.specs.State.{State, noneByte, task, queue, withTask, withQueue, withQueues, eachQueue, withHolders}
 use Rattle.rules.specs.Outcome.{Outcome, done, refused}
 
 -- "the lowest slot not in use"; the number of slots where every one is in use

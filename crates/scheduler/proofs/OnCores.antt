@@ -17,10 +17,10 @@ use Rattle.records.specs.Mask.{permits}
 use Rattle.records.specs.Task.{emptyRecord, picked}
 use Rattle.queue.specs.declared.BandQueue.{BandQueue}
 use Rattle.queue.specs.declared.Taken.{Taken}
-use Rattle.queue.specs.Answers.{Take}
-use Rattle.queue.specs.Rules.{entryAt, takenAt}
+use Rattle.queue.specs.Contracts.{Take}
+use Rattle.queue.specs.Entries.{entryAt, takenAt}
 use Rattle.queue.specs.Stored.{entries, Holds}
-use Rattle.queue.proofs.Rules.{entryAt-some}
+use Rattle.queue.proofs.Entries.{entryAt-some}
 use Rattle.rules.specs.declared.answer.Answer.{Answer}
 use Rattle.rules.specs.declared.answer.PickOption.the-variants as pick
 use Rattle.rules.specs.declared.answer.Value.{Value}
@@ -34,13 +34,13 @@ use Rattle.rules.specs.Accepted.{Accepted, ReadyOf}
 use Rattle.rules.specs.Outcome.{Chosen, answered}
 use Rattle.rules.specs.Picking.{permitted, placeFor, choice, afterPick, ruleP, answerSlot, schedule}
 use Rattle.rules.specs.Ticking.{waitsBefore}
-use Rattle.scheduler.specs.Scheduler.{queuesOf, abs, Valid, Meets, Gives, answerIn, whoRuns, Hold, toldBy}
+use Rattle.scheduler.specs.Scheduler.{queuesOf, abs, Valid, Meets, Gives, answerIn, whoRuns, HoldQueues, toldBy}
 use Rattle.rules.proofs.Calls.{call-accepted}
 use Rattle.rules.proofs.Invariant.{ready-in-table}
 use Rattle.rules.proofs.Picks.{P-past, P-below}
 use Rattle.scheduler.proofs.Promises.{leaving, meets-told, meets-given, gives-chosen, gives-as}
 use Rattle.scheduler.proofs.Seeking.{Seeking, seeking-band, seeking-place, found-place, found-first, before, chosen, none-chosen, waits-found, waits-none}
-use Rattle.scheduler.proofs.Stored.{record-at, band-at, queue-at, queue-back}
+use Rattle.scheduler.proofs.Arrays.{record-at, band-at, queue-at, queue-back}
 
 -- P is what schedule does
 P-accepted : {s : State} (core : ℕ) → Accepted s → Accepted (ruleP core s .state)
@@ -106,7 +106,7 @@ module _ {s : QoSScheduler} (v : Valid s) {core band place : ℕ} (k : Seeking (
           let runs : Chosen = afterPick (abs s) core (pick.Some (record { slot = e; band = b })) in
           let stored : task (runs .state) (e .0) ≡ picked (task (abs s) (e .0)) =
           getD-set-same (s .tasks) (e .0) (picked (task (abs s) (e .0))) emptyRecord (omega (arith, entry-low, v .accepted .slots)) in
-          let back : Hold (set (s .queues) band (taken .queue)) (withBand (queuesOf (s .queues)) b (takenAt (placeFor (abs s) core b) (queue (abs s) b))) =
+          let back : HoldQueues (set (s .queues) band (taken .queue)) (withBand (queuesOf (s .queues)) b (takenAt (placeFor (abs s) core b) (queue (abs s) b))) =
           queue-back v b is dq (rw (found-place (abs s) core k b is e (sym entry-is ∙ some) (may ∙ passes))
           (subst (λ (l : List ℕ). Holds (taken .queue) (takenAt place l)) (queue-at v b is dq) (take .queue-is))) in
           let comes : ruleP core (abs s) ≡ runs = P-below (abs s) core below ∙ ap (afterPick (abs s) core) first in

@@ -12,12 +12,12 @@ use Rattle.records.specs.declared.state.ThreadState.{ThreadState}
 use Rattle.records.specs.declared.state.ThreadState.the-variants.{Ready, Running, Blocked, Terminated}
 use Rattle.records.specs.declared.task.TaskControlBlock.{TaskControlBlock}
 use Rattle.records.specs.Band.{IsBandCode}
-use Rattle.records.specs.State.{isState}
+use Rattle.records.specs.ThreadState.{isState}
 use Rattle.records.specs.Task.{withState}
 use Rattle.queue.specs.declared.BandQueue.{BandQueue}
 use Rattle.queue.specs.declared.Pushed.{Pushed}
-use Rattle.queue.specs.Answers.{Push}
-use Rattle.queue.specs.Rules.{pushed}
+use Rattle.queue.specs.Contracts.{Push}
+use Rattle.queue.specs.Entries.{pushed}
 use Rattle.rules.specs.declared.answer.PlanOption.the-variants as plan
 use Rattle.rules.specs.declared.answer.Value.the-variants as value
 use Rattle.rules.specs.declared.call.Call.the-variants.{Yield, Handoff, Plan}
@@ -28,11 +28,11 @@ use Rattle.rules.specs.Accepted.{Accepted}
 use Rattle.rules.specs.Picking.{ruleP}
 use Rattle.rules.specs.Waking.{enqueued}
 use Rattle.rules.specs.Ticking.{cleared, answerPlan, yieldHolder, yield, handoffIn, handoffHolder, handoff}
-use Rattle.scheduler.specs.Scheduler.{queuesOf, abs, Valid, Meets, Gives, Hold, toldBy, refusedBy}
+use Rattle.scheduler.specs.Scheduler.{queuesOf, abs, Valid, Meets, Gives, HoldQueues, toldBy, refusedBy}
 use Rattle.rules.proofs.Effects.{enqueue-done, idle-in, yields}
 use Rattle.scheduler.proofs.Holders.{harmless-accepted, known, held, holder-may, holder-below, let-go, let-go-is}
 use Rattle.scheduler.proofs.Promises.{meets-told, meets-refused, meets-given}
-use Rattle.scheduler.proofs.Stored.{record-at, pushed-back}
+use Rattle.scheduler.proofs.Arrays.{record-at, pushed-back}
 
 -- ---- yield and handoff on a core of 64 and above
 
@@ -99,7 +99,7 @@ module _ {s : QoSScheduler} (v : Valid s) {core : ℕ} (low : core < 64) (d : �
         abbrev sent-back : QoSScheduler
         sent-back = record { tasks = set (s .tasks) (h .0) u; queues = set (s .queues) n (p .queue); current = set (s .current) core noneByte; «system_ticks_us» = s .«system_ticks_us» }
 
-        back : Hold (set (s .queues) n (p .queue)) (withBand (queuesOf (s .queues)) (read .qos) (pushed (h .0) (queue (abs s) (read .qos))))
+        back : HoldQueues (set (s .queues) n (p .queue)) (withBand (queuesOf (s .queues)) (read .qos) (pushed (h .0) (queue (abs s) (read .qos))))
         back = pushed-back v (read .qos) (code .is) dq push
 
         abbrev left-with : TaskControlBlock → State

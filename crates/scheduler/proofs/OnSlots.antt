@@ -16,27 +16,28 @@ use Rattle.records.specs.declared.ids.Tid.{Tid}
 use Rattle.records.specs.declared.state.ThreadState.the-variants.{Ready, Running, Blocked}
 use Rattle.records.specs.declared.task.TaskControlBlock.{TaskControlBlock}
 use Rattle.records.specs.Band.{IsBandCode}
+use Rattle.records.specs.Lists.{firstPlace}
 use Rattle.records.specs.Mask.{storedMask}
-use Rattle.records.specs.State.{isState}
+use Rattle.records.specs.ThreadState.{isState}
 use Rattle.records.specs.Task.{created, withState, withMask, terminated, blocked}
 use Rattle.queue.specs.declared.BandQueue.{BandQueue}
 use Rattle.queue.specs.declared.Pushed.{Pushed}
-use Rattle.queue.specs.Answers.{Push}
+use Rattle.queue.specs.Contracts.{Push}
 use Rattle.queue.specs.Stored.{entries}
-use Rattle.queue.specs.Rules.{full, without}
-use Rattle.queue.proofs.Rules.{takes-slot}
+use Rattle.queue.specs.Entries.{full, without}
+use Rattle.queue.proofs.Entries.{takes-slot}
 use Rattle.rules.specs.declared.answer.Answer.{Answer}
 use Rattle.rules.specs.declared.answer.PickOption.the-variants as pick
 use Rattle.rules.specs.declared.answer.Value.the-variants as value
 use Rattle.rules.specs.declared.call.Call.the-variants.{Create, Affinity, Terminate, Block, Wake, Enqueue}
 use Rattle.scheduler.specs.declared.scheduler.QoSScheduler.{QoSScheduler}
 use Rattle.scheduler.specs.declared.scheduler.Reply.{Reply}
-use Rattle.rules.specs.State.{firstPlace, task, queue, eachQueue}
+use Rattle.rules.specs.State.{task, queue, eachQueue}
 use Rattle.rules.specs.Outcome.{answered}
-use Rattle.scheduler.specs.Scheduler.{queuesOf, abs, Valid, Meets, Hold, refusedBy}
+use Rattle.scheduler.specs.Scheduler.{queuesOf, abs, Valid, Meets, HoldQueues, refusedBy}
 use Rattle.rules.specs.Waking.{freeSlot, create, released, affinity, terminate, missing, block, wake, enqueue}
 use Rattle.scheduler.proofs.Promises.{leaving, meets-put, kept, meets-refused, meets-as}
-use Rattle.scheduler.proofs.Stored.{slots, record-at, queue-at, pushed-back}
+use Rattle.scheduler.proofs.Arrays.{slots, record-at, queue-at, pushed-back}
 use Rattle.scheduler.proofs.Searches.{search-on, search-found}
 
 -- ---- a slot of 64 and above
@@ -77,7 +78,7 @@ module _ {s : QoSScheduler} (v : Valid s) {slot : Slot} (d : TaskControlBlock) (
   affinity-done t-is a-is = meets-put v (slot .0) t-is (kept v) refl a-is (rw (lt-leb 64 (slot .0) low) (rw (sym read-is) refl))
 
   pub terminate-done : {a : Answer} {t : TaskControlBlock} {qs : List BandQueue} {hs : List ℕ} → t ≡ terminated read →
-      Hold qs (eachQueue (without (slot .0)) (queuesOf (s .queues))) → hs ≡ map (released (slot .0)) (s .current) → a ≡ answered pick.None value.Nothing →
+      HoldQueues qs (eachQueue (without (slot .0)) (queuesOf (s .queues))) → hs ≡ map (released (slot .0)) (s .current) → a ≡ answered pick.None value.Nothing →
       Meets (Terminate slot) s (leaving s a (set (s .tasks) (slot .0) t) qs hs)
   unfolding terminate abs
   terminate-done t-is out hs-is a-is = meets-put v (slot .0) t-is out hs-is a-is (rw (lt-leb 64 (slot .0) low) (rw (sym read-is) refl))
@@ -107,7 +108,7 @@ module _ {s : QoSScheduler} (v : Valid s) {slot : Slot} (d : TaskControlBlock) (
     block-again so is = meets-refused v AlreadyBlocked is (rw there (rw (sym read-is) (rw so refl)))
 
     pub block-done : {a : Answer} {t : TaskControlBlock} {qs : List BandQueue} → isState (read .state) Blocked ≡ false →
-        Hold qs (eachQueue (without (slot .0)) (queuesOf (s .queues))) → t ≡ blocked read → a ≡ answered pick.None value.Nothing →
+        HoldQueues qs (eachQueue (without (slot .0)) (queuesOf (s .queues))) → t ≡ blocked read → a ≡ answered pick.None value.Nothing →
         Meets (Block slot) s (leaving s a (set (s .tasks) (slot .0) t) qs (s .current))
     unfolding block abs
     block-done so out t-is a-is = meets-put v (slot .0) t-is out refl a-is (rw there (rw (sym read-is) (rw so refl)))

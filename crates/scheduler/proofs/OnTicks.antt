@@ -15,13 +15,13 @@ use Rattle.records.specs.declared.ids.SlotOption.the-variants as slot
 use Rattle.records.specs.declared.state.ThreadState.the-variants.{Ready, Blocked}
 use Rattle.records.specs.declared.task.TaskControlBlock.{TaskControlBlock}
 use Rattle.records.specs.Band.{IsBandCode}
-use Rattle.records.specs.State.{isState}
+use Rattle.records.specs.ThreadState.{isState}
 use Rattle.records.specs.Task.{emptyRecord, withState, withConsumed}
 use Rattle.records.proofs.Cases.{split}
 use Rattle.queue.specs.declared.BandQueue.{BandQueue}
 use Rattle.queue.specs.declared.Pushed.{Pushed}
-use Rattle.queue.specs.Answers.{Push}
-use Rattle.queue.specs.Rules.{pushed}
+use Rattle.queue.specs.Contracts.{Push}
+use Rattle.queue.specs.Entries.{pushed}
 use Rattle.rules.specs.declared.answer.Answer.{Answer}
 use Rattle.rules.specs.declared.answer.PickOption.the-variants as pick
 use Rattle.rules.specs.declared.answer.PlanOption.the-variants as plan
@@ -38,14 +38,14 @@ use Rattle.rules.specs.Outcome.{Chosen, answered, done}
 use Rattle.rules.specs.Picking.{noChoice, ruleP}
 use Rattle.rules.specs.Ticking.{gain, waitsBefore, sliceOver, requeued, staysHolder, ticked, tick, answerPlan, planned}
 use Rattle.rules.specs.Took.{outOfSlice}
-use Rattle.scheduler.specs.Scheduler.{queuesOf, abs, Whole, Valid, Meets, Gives, answerIn, whoRuns, Hold, toldBy}
+use Rattle.scheduler.specs.Scheduler.{queuesOf, abs, Whole, Valid, Meets, Gives, answerIn, whoRuns, HoldQueues, toldBy}
 use Rattle.rules.proofs.Calls.{call-accepted}
 use Rattle.rules.proofs.Effects.{slice-ends}
 use Rattle.scheduler.proofs.Holders.{harmless-accepted, known, held, holder-may, holder-below, let-go, let-go-is}
 use Rattle.rules.proofs.Invariant.{no-holder}
 use Rattle.rules.proofs.Moves.{Harmless, time}
 use Rattle.scheduler.proofs.Promises.{meets-given, gives-chosen, gives-as}
-use Rattle.scheduler.proofs.Stored.{record-at, pushed-back}
+use Rattle.scheduler.proofs.Arrays.{record-at, pushed-back}
 
 -- ---- the end of a slice, where the record is stored once
 
@@ -236,7 +236,7 @@ module _ {s : QoSScheduler} (v : Valid s) {core micros : ℕ} (elapsed : ℕ) (l
             abbrev sent-back : QoSScheduler
             sent-back = record { tasks = set (s .tasks) (h .0) u; queues = set (s .queues) n (p .queue); current = s .current; «system_ticks_us» = micros }
 
-            back : Hold (set (s .queues) n (p .queue)) (withBand (queuesOf (s .queues)) (read .qos) (pushed (h .0) (queue (abs s) (read .qos))))
+            back : HoldQueues (set (s .queues) n (p .queue)) (withBand (queuesOf (s .queues)) (read .qos) (pushed (h .0) (queue (abs s) (read .qos))))
             back = pushed-back v (read .qos) (code .is) dq push
 
             -- the state that is left, by the record that was read

@@ -25,7 +25,7 @@ use Rattle.rules.specs.Accepted.{Accepted}
 use Rattle.rules.specs.Outcome.{Outcome, Chosen, answered, done, refused}
 use Rattle.rules.specs.Ticking.{targetOf, planTo}
 use Rattle.rules.specs.Step.{step}
-use Rattle.scheduler.specs.Scheduler.{queuesOf, abs, Whole, Valid, Meets, toldBy, refusedBy, Gives, answerIn, targetWith, whoRuns, Hold}
+use Rattle.scheduler.specs.Scheduler.{queuesOf, abs, Whole, Valid, Meets, toldBy, refusedBy, Gives, answerIn, targetWith, whoRuns, HoldQueues}
 use Rattle.rules.proofs.Calls.{call-accepted}
 
 -- a reply with these arrays, and the time as it was
@@ -45,7 +45,7 @@ module _ {call : Call} {s : QoSScheduler} (v : Valid s) where
 
   -- done, with a record, the queues and the holders replaced
   pub meets-put : (i : ℕ) {t u : TaskControlBlock} {qs : List BandQueue} {q : Queues} {hs now : List ℕ} {a : Answer} {x : Value} →
-      t ≡ u → Hold qs q → hs ≡ now → a ≡ answered pick.None x →
+      t ≡ u → HoldQueues qs q → hs ≡ now → a ≡ answered pick.None x →
       step call (abs s) ≡ done x (record { tasks = set (s .tasks) i u; queues = q; holders = now; micros = s .«system_ticks_us» }) →
       Meets call s (leaving s a (set (s .tasks) i t) qs hs)
   unfolding abs
@@ -60,7 +60,7 @@ module _ {call : Call} {s : QoSScheduler} (v : Valid s) where
   meets-told x is by = subst (Meets call s) (sym is) (meets (done x (abs s)) by (v .whole) refl refl)
 
 -- the queues as they are
-pub kept : {s : QoSScheduler} → Valid s → Hold (s .queues) (queuesOf (s .queues))
+pub kept : {s : QoSScheduler} → Valid s → HoldQueues (s .queues) (queuesOf (s .queues))
 kept v = record { whole = v .whole; entries-are = refl }
 
 -- what was given is what the rules make of the call

@@ -7,7 +7,7 @@ use Prim.Native.Nat.{ℕ, zero, suc, _+_, _≤_, _<_}
 use native.Mathlib.Omega.{arith}
 use lib.ListN.{length, getD}
 use Rattle.records.proofs.Cases.{split}
-use Rattle.rules.specs.State.{firstPlace}
+use Rattle.records.specs.Lists.{firstPlace}
 
 module _ {A : Type 0} (test : A → Bool) where
   firstPlace-le : (l : List A) → firstPlace test l ≤ length l

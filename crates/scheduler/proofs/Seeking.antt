@@ -14,8 +14,8 @@ use Rattle.records.specs.declared.ids.SlotOption.the-variants as slot
 use Rattle.records.specs.Band.{bandCode}
 use Rattle.records.proofs.Bands.{bandCode-one}
 use Rattle.records.proofs.Cases.{split}
-use Rattle.queue.specs.Rules.{entryAt}
-use Rattle.queue.proofs.Rules.{entryAt-some, entryAt-none, entryAt-past}
+use Rattle.queue.specs.Entries.{entryAt}
+use Rattle.queue.proofs.Entries.{entryAt-some, entryAt-none, entryAt-past}
 use Rattle.rules.specs.declared.answer.PickOption.the-variants as pick
 use Rattle.rules.specs.State.{State, bandOrder, queue}
 use Rattle.rules.specs.Picking.{permitted, placeFor, firstPermitted, waitsIn, choice}

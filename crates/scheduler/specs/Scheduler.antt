@@ -22,7 +22,8 @@ use Rattle.scheduler.specs.declared.picking.Form.{Form}
 use Rattle.scheduler.specs.declared.picking.Form.the-variants as form
 use Rattle.rules.specs.State.{State, Queues, newState}
 use Rattle.rules.specs.Outcome.{Outcome, Chosen, answered, refusal}
-use Rattle.rules.specs.Accepted.{Accepted, Each}
+use Rattle.records.specs.Lists.{Each}
+use Rattle.rules.specs.Accepted.{Accepted}
 use Rattle.rules.specs.Picking.{answerSlot}
 use Rattle.rules.specs.Ticking.{planTo, answerPlan}
 use Rattle.rules.specs.Step.{step}
@@ -99,6 +100,6 @@ whoRuns form.Slot previous next cr3 = value.Slot next
 whoRuns form.Plan previous next cr3 = value.Plan (planTo previous next (targetWith next cr3))
 
 -- a whole array of queues with these entries
-pub record Hold (qs : List BandQueue) (q : Queues) : Type 0 where
+pub record HoldQueues (qs : List BandQueue) (q : Queues) : Type 0 where
   pub whole : Whole qs
   pub entries-are : queuesOf qs ≡ q

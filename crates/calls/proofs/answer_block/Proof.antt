@@ -9,18 +9,18 @@ use borrow.Author.Tests.{not-true, not-false}
 use lib.ListN.{length}
 use lib.Seq.{length-take-le}
 use Rattle.frames.proofs.Streams.{feeds-on}
-use Rattle.calls.proofs.Feeding.{Going, begin, within-after, turn, done}
+use Rattle.calls.proofs.Feeding.{BlockGoing, block-begin, within-after, turn, done}
 use Rattle.calls.proofs.answer_block.Statement.{statement}
 use Rattle.calls.proofs.answer_block.Tie as tie
 
 abbrev Inv-loop : tie.InvT-loop
-Inv-loop block last out₀ stream₀ used₀ out stream used = Going last stream₀ block stream used × (length out ≡ length out₀)
+Inv-loop block last out₀ stream₀ used₀ out stream used = BlockGoing last stream₀ block stream used × (length out ≡ length out₀)
 
 abbrev μ-loop : tie.MeasureT-loop
 μ-loop block last out₀ stream₀ used₀ out stream used = length block - used
 
 loop-holds : tie.Need-loop-holds Inv-loop μ-loop
-loop-holds c = (begin _ _ _ (c .before .before .pre .0), search needs)
+loop-holds c = (block-begin _ _ _ (c .before .before .pre .0), search needs)
 
 add-used : tie.Need-add-used Inv-loop μ-loop
 add-used c =

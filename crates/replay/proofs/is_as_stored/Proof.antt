@@ -5,7 +5,7 @@ use Prim.Native.Nat.{_-_}
 use borrow.Author.Needs.{needs}
 use borrow.Author.Tests.{eqb-true, eqb-false, not-true, not-false}
 use lib.ListN.{length, drop}
-use Rattle.replay.specs.Stored.{asStored}
+use Rattle.replay.specs.Comparing.{asStored}
 use Rattle.replay.proofs.Comparing.{unlike, goes-on, differs, ends, alike-by, apart-by}
 use Rattle.replay.proofs.is_as_stored.Statement.{statement}
 use Rattle.replay.proofs.is_as_stored.Tie as tie

@@ -4,7 +4,7 @@ use native.Mathlib.Omega.{arith}
 use borrow.Author.Needs.{needs}
 use Rattle.scheduler.specs.Scheduler.{abs}
 use Rattle.replay.specs.Counted.{anAnswer, aName, aFrame}
-use Rattle.replay.proofs.Counting.{an-answer, a-name, a-frame}
+use Rattle.replay.proofs.Counted.{an-answer, a-name, a-frame}
 use Rattle.replay.proofs.replay_line.Statement.{statement}
 use Rattle.replay.proofs.replay_line.Tie as tie
 

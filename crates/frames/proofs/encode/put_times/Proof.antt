@@ -1,7 +1,7 @@
 -- `put_times` meets its contract: three numbers, one behind the other. Assumes nothing.
 use mathlib.Core.Path.{refl}
 use native.Mathlib.Omega.{arith}
-use Rattle.frames.proofs.Runs.{run, run-end}
+use Rattle.frames.proofs.Runs.{run-on, run-end}
 use borrow.Author.Needs.{needs}
 use Rattle.frames.proofs.encode.put_times.Statement.{statement}
 use Rattle.frames.proofs.encode.put_times.Tie as tie
@@ -12,8 +12,8 @@ returns c =
     let at-flag-number = at-put-number3 .before in
     let at-put-number2 = at-flag-number .before .before .before .before in
     let at-put-number = at-put-number2 .before .before .before .before .before in
-    run _ _ 4 _ _ (at-put-number .put-number .ensures) refl refl
-    (run _ _ 4 _ _ (at-put-number2 .put-number2 .ensures) refl (omega arith)
+    run-on _ _ 4 _ _ (at-put-number .put-number .ensures) refl refl
+    (run-on _ _ 4 _ _ (at-put-number2 .put-number2 .ensures) refl (omega arith)
     (run-end _ _ 1 (at-put-number3 .put-number3 .ensures) (at-flag-number .flag-number .ensures)))
 
 pub put-times-spec : {M : Type 1} → statement M

@@ -3,7 +3,7 @@ use mathlib.Core.Path.{ap, _∙_}
 use borrow.Author.Needs.{needs}
 use Rattle.records.specs.declared.state.ThreadState.{ThreadState}
 use Rattle.records.specs.declared.state.ThreadState.the-variants.{Terminated}
-use Rattle.records.specs.State.{isState}
+use Rattle.records.specs.ThreadState.{isState}
 use Rattle.frames.proofs.fields.is_terminated.Statement.{statement}
 use Rattle.frames.proofs.fields.is_terminated.Tie as tie
 

@@ -2,12 +2,12 @@
 -- for. Assumes nothing.
 use Prim.Native.Nat.{_-_}
 use borrow.Author.Needs.{needs}
-use Rattle.frames.proofs.Digits.{Reading, reading-begin, reading-on, reading-ended}
+use Rattle.frames.proofs.Digits.{ReadingDigits, reading-begin, reading-on, reading-ended}
 use Rattle.frames.proofs.hex.from_hex.Statement.{statement}
 use Rattle.frames.proofs.hex.from_hex.Tie as tie
 
 abbrev Inv-loop : tie.InvT-loop
-Inv-loop line bytes₀ n k₀ bytes k = Reading line bytes₀ bytes k
+Inv-loop line bytes₀ n k₀ bytes k = ReadingDigits line bytes₀ bytes k
 
 abbrev μ-loop : tie.MeasureT-loop
 μ-loop line bytes₀ n k₀ bytes k = n - k

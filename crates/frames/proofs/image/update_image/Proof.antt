@@ -1,7 +1,7 @@
 -- `update_image` meets its contract: two records over those of their slots, and behind the records all of the rest. Assumes nothing.
 use native.Mathlib.Omega.{arith}
 use borrow.Author.Needs.{needs}
-use Rattle.scheduler.proofs.Stored.{cores}
+use Rattle.scheduler.proofs.Arrays.{cores}
 use Rattle.frames.proofs.Writings.{queues-short, image-over}
 use Rattle.frames.proofs.image.update_image.Statement.{statement}
 use Rattle.frames.proofs.image.update_image.Tie as tie

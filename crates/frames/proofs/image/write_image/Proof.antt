@@ -4,7 +4,7 @@ use native.Mathlib.Omega.{arith}
 use borrow.Author.Needs.{needs}
 use borrow.Author.Tests.{eq-eqb, ne-eqb}
 use Rattle.frames.proofs.Typed.{valid-image}
-use Rattle.scheduler.proofs.Stored.{cores}
+use Rattle.scheduler.proofs.Arrays.{cores}
 use Rattle.frames.proofs.Writings.{queues-short, image-put, image-written}
 use Rattle.frames.proofs.image.write_image.Statement.{statement}
 use Rattle.frames.proofs.image.write_image.Tie as tie

@@ -43,7 +43,6 @@ use Rattle.scheduler.proofs.Lending.{loanTy, lendCode, lends}
 use Rattle.scheduler.proofs.Loans.{BlockLent, TickLent, block-loan, tick-loan}
 use Rattle.scheduler.proofs.scheduler.QoSScheduler as S
 use Rattle.scheduler.proofs.scheduler.QoSScheduler.Laws as S′
-use Rattle.rules.proofs.answer.Answer as N
 use Rattle.rules.proofs.answer.Answer.Laws as N′
 use Rattle.scheduler.proofs.scheduler.QoSScheduler.block_task_lent.Symbol as block-def
 use Rattle.scheduler.proofs.scheduler.QoSScheduler.block_task_lent.Symbol.{name as #block}

@@ -3,7 +3,7 @@ use mathlib.Core.Path.{_≡_, ap, _∙_}
 use Prim.Native.Nat.{_-_, _≤_}
 use native.Mathlib.Omega.{arith}
 use borrow.Author.Needs.{needs}
-use Rattle.queue.specs.Rules.{places as placesOf}
+use Rattle.queue.specs.Entries.{places as placesOf}
 use Rattle.queue.specs.Stored.{entries, window}
 use Rattle.queue.proofs.Places.{places-none, places-on}
 use Rattle.queue.proofs.BandQueue.places.Statement.{statement}

@@ -4,7 +4,7 @@ use mathlib.Core.Path.{_≡_}
 use Prim.Native.Nat.{_≤_, _-_}
 use native.Mathlib.Omega.{arith}
 use borrow.Author.Needs.{needs}
-use Rattle.queue.proofs.Turns.{Turned, taken-none, turned-none, turned-one, turned-taken}
+use Rattle.queue.proofs.Taking.{Turned, taken-none, turned-none, turned-one, turned-taken}
 use Rattle.queue.proofs.BandQueue.take_at.Statement.{statement}
 use Rattle.queue.proofs.BandQueue.take_at.Tie as tie
 

@@ -1,6 +1,6 @@
 -- `same_slot` meets its contract: two slots are the same where their numbers are. Assumes nothing.
 use borrow.Author.Needs.{needs}
-use Rattle.scheduler.proofs.Answers.{same-slots}
+use Rattle.scheduler.proofs.OnQueries.{same-slots}
 use Rattle.scheduler.proofs.picking.same_slot.Statement.{statement}
 use Rattle.scheduler.proofs.picking.same_slot.Tie as tie
 

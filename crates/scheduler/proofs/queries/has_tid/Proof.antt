@@ -1,6 +1,6 @@
 -- `has_tid` meets its contract: the tids are compared where the record is in use. Assumes nothing.
 use borrow.Author.Needs.{needs}
-use Rattle.scheduler.proofs.Answers.{tid-in-use}
+use Rattle.scheduler.proofs.OnQueries.{tid-in-use}
 use Rattle.scheduler.proofs.queries.has_tid.Statement.{statement}
 use Rattle.scheduler.proofs.queries.has_tid.Tie as tie
 

@@ -1,5 +1,5 @@
 -- `holder_of` meets its contract: 255 stands for none, any other number for a slot. Assumes nothing.
-use Rattle.scheduler.proofs.Answers.{holder-none, holder-some}
+use Rattle.scheduler.proofs.OnQueries.{holder-none, holder-some}
 use Rattle.scheduler.proofs.scheduler.holder_of.Statement.{statement}
 use Rattle.scheduler.proofs.scheduler.holder_of.Tie as tie
 

@@ -6,7 +6,7 @@ use borrow.Author.Needs.{needs}
 use borrow.Author.Tests.{not-true, not-false}
 use lib.Dec.{eqb}
 use lib.ListN.{length}
-use Rattle.rules.specs.State.{firstPlace}
+use Rattle.records.specs.Lists.{firstPlace}
 use Rattle.scheduler.proofs.Searches.{search-on, search-found, search-ended}
 use Rattle.scheduler.proofs.waking.core_holding.Statement.{statement}
 use Rattle.scheduler.proofs.waking.core_holding.Tie as tie

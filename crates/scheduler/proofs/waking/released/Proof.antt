@@ -1,5 +1,5 @@
 -- `released` meets its contract: none for the slot, any other number as it was. Assumes nothing.
-use Rattle.scheduler.proofs.Answers.{released-same, released-other}
+use Rattle.scheduler.proofs.OnQueries.{released-same, released-other}
 use Rattle.scheduler.proofs.waking.released.Statement.{statement}
 use Rattle.scheduler.proofs.waking.released.Tie as tie
 

@@ -2,7 +2,7 @@
 -- Assumes nothing.
 use mathlib.Core.Path.{sym, ap}
 use native.Mathlib.Omega.{arith}
-use Rattle.records.specs.State.{codedState}
+use Rattle.records.specs.ThreadState.{codedState}
 use Rattle.records.proofs.States.{codedState-past}
 use Rattle.records.proofs.state.ThreadState.from_code.Statement.{statement}
 use Rattle.records.proofs.state.ThreadState.from_code.Tie as tie

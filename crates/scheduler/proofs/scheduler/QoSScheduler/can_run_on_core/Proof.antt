@@ -1,7 +1,7 @@
 -- `QoSScheduler::can_run_on_core` meets its contract: a slot past the table, and one of the table. Assumes nothing.
 use mathlib.Core.Path.{sym}
 use borrow.Author.Needs.{needs}
-use Rattle.scheduler.proofs.Answers.{slot-runs}
+use Rattle.scheduler.proofs.OnQueries.{slot-runs}
 use Rattle.rules.proofs.OutOfTable.{no-slot-runs}
 use Rattle.scheduler.proofs.scheduler.QoSScheduler.can_run_on_core.Statement.{statement}
 use Rattle.scheduler.proofs.scheduler.QoSScheduler.can_run_on_core.Tie as tie

@@ -2,7 +2,7 @@
 use mathlib.Core.Path.{sym}
 use native.Mathlib.Omega.{arith}
 use borrow.Author.Needs.{needs}
-use Rattle.scheduler.proofs.Answers.{core-idle, core-record}
+use Rattle.scheduler.proofs.OnQueries.{core-idle, core-record}
 use Rattle.rules.proofs.OutOfTable.{no-core-record}
 use Rattle.scheduler.proofs.Holders.{holder-below}
 use Rattle.scheduler.proofs.scheduler.QoSScheduler.current_task_on_cpu.Statement.{statement}

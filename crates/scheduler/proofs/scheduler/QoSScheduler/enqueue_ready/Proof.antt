@@ -3,7 +3,7 @@ use mathlib.Core.Path.{sym, _∙_}
 use borrow.Author.Tests.{not-true, not-false}
 use borrow.Author.Needs.{needs}
 use Rattle.scheduler.proofs.OnSlots.{enqueue-past, enqueue-free, enqueue-again, enqueue-full, enqueue-done}
-use Rattle.scheduler.proofs.Stored.{ring-below}
+use Rattle.scheduler.proofs.Arrays.{ring-below}
 use Rattle.scheduler.proofs.scheduler.QoSScheduler.enqueue_ready.Statement.{statement}
 use Rattle.scheduler.proofs.scheduler.QoSScheduler.enqueue_ready.Tie as tie
 

@@ -1,7 +1,7 @@
 -- `QoSScheduler::holder` meets its contract: a slot past the table, one that no core holds, and one that a core holds. Assumes nothing.
 use mathlib.Core.Path.{sym}
 use borrow.Author.Needs.{needs}
-use Rattle.scheduler.proofs.Answers.{no-core-holds, core-holds}
+use Rattle.scheduler.proofs.OnQueries.{no-core-holds, core-holds}
 use Rattle.rules.proofs.OutOfTable.{no-slot-held}
 use Rattle.scheduler.proofs.scheduler.QoSScheduler.holder.Statement.{statement}
 use Rattle.scheduler.proofs.scheduler.QoSScheduler.holder.Tie as tie

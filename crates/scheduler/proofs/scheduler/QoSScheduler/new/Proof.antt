@@ -1,6 +1,6 @@
 -- `QoSScheduler::new` meets its contract: what it makes is the new state, which is accepted. Assumes nothing.
 use borrow.Author.Needs.{needs}
-use Rattle.scheduler.proofs.Answers.{new-made}
+use Rattle.scheduler.proofs.OnQueries.{new-made}
 use Rattle.scheduler.proofs.scheduler.QoSScheduler.new.Statement.{statement}
 use Rattle.scheduler.proofs.scheduler.QoSScheduler.new.Tie as tie
 

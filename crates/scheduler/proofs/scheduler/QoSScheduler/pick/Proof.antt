@@ -9,7 +9,7 @@ use Rattle.scheduler.specs.Scheduler.{abs, Valid}
 use Rattle.scheduler.proofs.OnCores.{on-to-band, place-low, entry-low, on-to-place, pick-found, pick-none}
 use Rattle.scheduler.proofs.Promises.{gives-as}
 use Rattle.scheduler.proofs.Seeking.{Seeking, seeking-first}
-use Rattle.scheduler.proofs.Stored.{ring-below}
+use Rattle.scheduler.proofs.Arrays.{ring-below}
 use Rattle.scheduler.proofs.scheduler.QoSScheduler.pick.Statement.{statement}
 use Rattle.scheduler.proofs.scheduler.QoSScheduler.pick.Tie as tie
 

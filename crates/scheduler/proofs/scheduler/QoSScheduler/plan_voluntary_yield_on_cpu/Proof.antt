@@ -5,7 +5,7 @@ use borrow.Author.Needs.{needs}
 use borrow.Author.Tests.{not-true, not-false}
 use Rattle.scheduler.proofs.Holders.{holder-below}
 use Rattle.scheduler.proofs.OnPlans.{yield-past, yield-none, yield-idle, sent-back-valid, yield-running}
-use Rattle.scheduler.proofs.Stored.{ring-below}
+use Rattle.scheduler.proofs.Arrays.{ring-below}
 use Rattle.scheduler.proofs.scheduler.QoSScheduler.plan_voluntary_yield_on_cpu.Statement.{statement}
 use Rattle.scheduler.proofs.scheduler.QoSScheduler.plan_voluntary_yield_on_cpu.Tie as tie
 

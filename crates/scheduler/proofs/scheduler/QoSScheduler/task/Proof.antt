@@ -1,7 +1,7 @@
 -- `QoSScheduler::task` meets its contract: a slot past the table, and one of the table. Assumes nothing.
 use mathlib.Core.Path.{sym}
 use borrow.Author.Needs.{needs}
-use Rattle.scheduler.proofs.Answers.{slot-record}
+use Rattle.scheduler.proofs.OnQueries.{slot-record}
 use Rattle.rules.proofs.OutOfTable.{no-slot-record}
 use Rattle.scheduler.proofs.scheduler.QoSScheduler.task.Statement.{statement}
 use Rattle.scheduler.proofs.scheduler.QoSScheduler.task.Tie as tie

@@ -3,11 +3,11 @@ use mathlib.Core.Path.{sym, _∙_}
 use Prim.Native.Nat.{_-_, _≤_}
 use native.Mathlib.Omega.{arith}
 use borrow.Author.Needs.{needs}
-use Rattle.rules.specs.State.{firstPlace}
+use Rattle.records.specs.Lists.{firstPlace}
 use Rattle.rules.specs.Queries.{hasTid}
-use Rattle.scheduler.proofs.Answers.{tid-found, tid-missing}
+use Rattle.scheduler.proofs.OnQueries.{tid-found, tid-missing}
 use Rattle.scheduler.proofs.Searches.{search-on}
-use Rattle.scheduler.proofs.Stored.{slots}
+use Rattle.scheduler.proofs.Arrays.{slots}
 use Rattle.scheduler.proofs.scheduler.QoSScheduler.task_index_for_tid.Statement.{statement}
 use Rattle.scheduler.proofs.scheduler.QoSScheduler.task_index_for_tid.Tie as tie
 

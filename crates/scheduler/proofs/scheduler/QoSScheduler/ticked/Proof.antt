@@ -9,7 +9,7 @@ use Rattle.records.specs.declared.task.TaskControlBlock.{TaskControlBlock}
 use Rattle.records.specs.Task.{withState}
 use Rattle.scheduler.proofs.Holders.{holder-below, let-go-valid}
 use Rattle.scheduler.proofs.OnTicks.{tick-past, later-valid, tick-none, tick-blocked, tick-stays, spared-valid, tick-waits, sent-back-valid, tick-over}
-use Rattle.scheduler.proofs.Stored.{ring-below}
+use Rattle.scheduler.proofs.Arrays.{ring-below}
 use Rattle.scheduler.proofs.scheduler.QoSScheduler.ticked.Statement.{statement}
 use Rattle.scheduler.proofs.scheduler.QoSScheduler.ticked.Tie as tie
 

@@ -5,7 +5,7 @@ use borrow.Author.Needs.{needs}
 use Rattle.scheduler.specs.Scheduler.{abs}
 use Rattle.scheduler.proofs.OnCores.{on-to-band, place-low, entry-low, on-to-place, test-found, test-none}
 use Rattle.scheduler.proofs.Seeking.{Seeking, seeking-first}
-use Rattle.scheduler.proofs.Stored.{ring-below}
+use Rattle.scheduler.proofs.Arrays.{ring-below}
 use Rattle.scheduler.proofs.scheduler.QoSScheduler.waits_before.Statement.{statement}
 use Rattle.scheduler.proofs.scheduler.QoSScheduler.waits_before.Tie as tie
 

@@ -25,16 +25,17 @@ use Rattle.rules.specs.declared.answer.Value.the-variants as value
 use Rattle.scheduler.specs.declared.picking.Form.the-variants as form
 use Rattle.scheduler.specs.declared.scheduler.QoSScheduler.{QoSScheduler}
 use Rattle.rules.specs.State as state
-use Rattle.rules.specs.State.{noneByte, newState, holderIn, holderOf, firstPlace}
-use Rattle.rules.specs.Accepted.{Accepted, Each}
-use Rattle.rules.specs.Queries.{canRunOnCore, hasTid, taskIndexForTid, taskAt, recordOf, currentTaskOnCpu, coreOf}
+use Rattle.records.specs.Lists.{Each, firstPlace}
+use Rattle.rules.specs.State.{noneByte, newState, holderIn, holderOf}
+use Rattle.rules.specs.Accepted.{Accepted}
+use Rattle.rules.specs.Queries.{canRunOnCore, hasTid, taskIndexForTid, taskAt, holderRecord, currentTaskOnCpu, coreOf}
 use Rattle.rules.specs.Ticking.{same}
 use Rattle.rules.specs.Waking.{released}
 use Rattle.scheduler.specs.Scheduler.{queuesOf, abs, Valid, IsNew, switchTo, targetWith, whoRuns}
 use Rattle.rules.proofs.Calls.{new-accepted}
 use Rattle.scheduler.proofs.Holders.{held, holder-below}
 use Rattle.scheduler.proofs.Searches.{search-found}
-use Rattle.scheduler.proofs.Stored.{slots, record-at}
+use Rattle.scheduler.proofs.Arrays.{slots, record-at}
 
 -- ---- the new scheduler
 
@@ -125,12 +126,12 @@ module _ {s : QoSScheduler} (v : Valid s) {c : ℕ} (low : c < 64) (d : ℕ) {o 
 
   pub core-idle : o ≡ slot.None → task.None ≡ currentTaskOnCpu c (abs s)
   unfolding currentTaskOnCpu
-  core-idle none = rw (lt-leb 64 c low) (ap (λ (p : SlotOption). recordOf p (abs s)) (sym none ∙ read))
+  core-idle none = rw (lt-leb 64 c low) (ap (λ (p : SlotOption). holderRecord p (abs s)) (sym none ∙ read))
 
   pub core-record : {h : Slot} → o ≡ slot.Some h → (dt : TaskControlBlock) → task.Some (getD (s .tasks) (h .0) dt) ≡ currentTaskOnCpu c (abs s)
   unfolding currentTaskOnCpu
   core-record {h} is dt =
-      rw (lt-leb 64 c low) (slot-record v dt (holder-below v low d o-is is) ∙ ap (λ (p : SlotOption). recordOf p (abs s)) (sym is ∙ read))
+      rw (lt-leb 64 c low) (slot-record v dt (holder-below v low d o-is is) ∙ ap (λ (p : SlotOption). holderRecord p (abs s)) (sym is ∙ read))
 
 -- ---- a plan
 

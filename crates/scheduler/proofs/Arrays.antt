@@ -10,15 +10,15 @@ use Rattle.records.specs.declared.band.QoSClass.the-variants.{UserInteractive, 
 use Rattle.records.specs.declared.ids.Slot.{Slot}
 use Rattle.records.specs.declared.task.TaskControlBlock.{TaskControlBlock}
 use Rattle.records.specs.Band.{bandCode}
+use Rattle.records.specs.Lists.{Each}
 use Rattle.queue.specs.declared.BandQueue.{BandQueue}
 use Rattle.queue.specs.declared.Pushed.{Pushed}
-use Rattle.queue.specs.Answers.{Push}
-use Rattle.queue.specs.Rules.{pushed}
+use Rattle.queue.specs.Contracts.{Push}
+use Rattle.queue.specs.Entries.{pushed}
 use Rattle.queue.specs.Stored.{entries, WellFormed, Holds}
 use Rattle.scheduler.specs.declared.scheduler.QoSScheduler.{QoSScheduler}
 use Rattle.rules.specs.State.{task, ofBand, withBand, queue, holder}
-use Rattle.rules.specs.Accepted.{Each}
-use Rattle.scheduler.specs.Scheduler.{queuesOf, abs, Whole, Valid, Hold}
+use Rattle.scheduler.specs.Scheduler.{queuesOf, abs, Whole, Valid, HoldQueues}
 
 -- ---- reading
 
@@ -80,13 +80,13 @@ module _ (qs : List BandQueue) (w : Whole qs) (b : QoSClass) where
       by-band x y z RealTimeIO = refl
       by-band x y z Background = refl
 
-  put-queue : (q : BandQueue) (es : List ℕ) → Holds q es → Hold (set qs (bandCode b) q) (withBand (queuesOf qs) b es)
+  put-queue : (q : BandQueue) (es : List ℕ) → Holds q es → HoldQueues (set qs (bandCode b) q) (withBand (queuesOf qs) b es)
   unfolding queuesOf Each
   put-queue q es h =
-      three (λ (l : List BandQueue). Each WellFormed l → Hold (set l (bandCode b) q) (withBand (queuesOf l) b es)) (λ x y z. by-band x y z b) qs (w .bands) (w .rings)
+      three (λ (l : List BandQueue). Each WellFormed l → HoldQueues (set l (bandCode b) q) (withBand (queuesOf l) b es)) (λ x y z. by-band x y z b) qs (w .bands) (w .rings)
     where
       by-band : (x y z : BandQueue) (b : QoSClass) → Each WellFormed (x ∷ y ∷ z ∷ []) →
-          Hold (set (x ∷ y ∷ z ∷ []) (bandCode b) q) (withBand (queuesOf (x ∷ y ∷ z ∷ [])) b es)
+          HoldQueues (set (x ∷ y ∷ z ∷ []) (bandCode b) q) (withBand (queuesOf (x ∷ y ∷ z ∷ [])) b es)
       by-band x y z UserInteractive r = record {
         whole = record { bands = refl; rings = (h .well-formed, r .1) };
         entries-are = λ i. record { interactive = h .entries-are i; realTime = entries y; background = entries z };
@@ -108,8 +108,8 @@ module _ (qs : List BandQueue) (w : Whole qs) (b : QoSClass) {n : ℕ} (is : n �
   pub entries-at : (d : BandQueue) → entries (getD qs n d) ≡ ofBand (queuesOf qs) b
   entries-at d = ap (λ (k : ℕ). entries (getD qs k d)) is ∙ entries-of qs w b d
 
-  pub queue-put : {q : BandQueue} {es : List ℕ} → Holds q es → Hold (set qs n q) (withBand (queuesOf qs) b es)
-  queue-put {q} {es} h = subst (λ (k : ℕ). Hold (set qs k q) (withBand (queuesOf qs) b es)) (sym is) (put-queue qs w b q es h)
+  pub queue-put : {q : BandQueue} {es : List ℕ} → Holds q es → HoldQueues (set qs n q) (withBand (queuesOf qs) b es)
+  queue-put {q} {es} h = subst (λ (k : ℕ). HoldQueues (set qs k q) (withBand (queuesOf qs) b es)) (sym is) (put-queue qs w b q es h)
 
 -- at any place among the three
 pub ring-below : (qs : List BandQueue) → Whole qs → (n : ℕ) (d : BandQueue) → n < 3 → WellFormed (getD qs n d)
@@ -123,11 +123,11 @@ module _ {s : QoSScheduler} (v : Valid s) (b : QoSClass) {n : ℕ} (is : n ≡ b
   queue-at = entries-at (s .queues) (v .whole) b is dq
 
   -- another queue put in its place
-  pub queue-back : {q : BandQueue} {es : List ℕ} → Holds q es → Hold (set (s .queues) n q) (withBand (queuesOf (s .queues)) b es)
+  pub queue-back : {q : BandQueue} {es : List ℕ} → Holds q es → HoldQueues (set (s .queues) n q) (withBand (queuesOf (s .queues)) b es)
   queue-back = queue-put (s .queues) (v .whole) b is
 
   -- the same queue, with a slot pushed
   pub pushed-back : {slot : Slot} {p : Pushed} → Push (getD (s .queues) n dq) slot p →
-      Hold (set (s .queues) n (p .queue)) (withBand (queuesOf (s .queues)) b (pushed (slot .0) (queue (abs s) b)))
+      HoldQueues (set (s .queues) n (p .queue)) (withBand (queuesOf (s .queues)) b (pushed (slot .0) (queue (abs s) b)))
   pushed-back {slot} {p} push = queue-back
       (subst (λ (l : List ℕ). Holds (p .queue) (pushed (slot .0) l)) queue-at (push .queue-is))

@@ -7,13 +7,12 @@ use lib.ListN.{length}
 use Rattle.records.specs.declared.band.QoSClass.{QoSClass}
 use Rattle.records.specs.declared.state.ThreadState.the-variants.{Ready}
 use Rattle.records.specs.Band.{bandCode, slice}
-use Rattle.queue.specs.Rules.{count}
+use Rattle.records.specs.Lists.{Each, count}
 use Rattle.rules.specs.declared.call.Call.{Call}
 use Rattle.rules.specs.declared.call.Call.the-variants.{Schedule}
 use Rattle.rules.specs.declared.answer.Pick.{Pick}
 use Rattle.rules.specs.declared.answer.PickOption.the-variants as pick
 use Rattle.rules.specs.State.{State, task, queue}
-use Rattle.rules.specs.Accepted.{Each}
 use Rattle.rules.specs.Step.{step, run}
 use Rattle.rules.specs.Took.{Carries}
 use Rattle.rules.specs.Stretch.{Event, others, ahead, stretchOf}

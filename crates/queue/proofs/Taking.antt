@@ -9,10 +9,10 @@ use lib.Seq.{drop-cons, take-suc}
 use Rattle.records.specs.declared.ids.Slot.{Slot}
 use Rattle.records.specs.declared.ids.SlotOption.the-variants.{None, Some}
 use Rattle.queue.specs.declared.BandQueue.{BandQueue}
-use Rattle.queue.specs.Answers.{Take}
-use Rattle.queue.specs.Rules.{takenAt}
+use Rattle.queue.specs.Contracts.{Take}
+use Rattle.queue.specs.Entries.{takenAt}
 use Rattle.queue.specs.Stored.{window, entries, WellFormed}
-use Rattle.queue.proofs.Rules.{entryAt-in, takenAt-past}
+use Rattle.queue.proofs.Entries.{entryAt-in, takenAt-past}
 use Rattle.queue.proofs.Ring.{window-front, window-behind, window-turn}
 use Rattle.queue.proofs.Places.{length-entries, entry-past}
 

@@ -2,7 +2,7 @@
 -- removal), "Picking" (the entry at a place, and taking it) and "Task record, queues, holders" (places, count).
 use mathlib.Core.Bool.{Bool, cond, not, _&&_}
 use mathlib.Core.List.{List, [], _∷_, _++_}
-use Prim.Native.Nat.{ℕ, suc, _+_, _-_}
+use Prim.Native.Nat.{ℕ, suc, _-_}
 use lib.Dec.{ltb, leb, eqb}
 use lib.ListN.{length, getD, take, drop, replicate}
 use Rattle.records.specs.declared.ids.SlotOption.{SlotOption}
@@ -36,8 +36,3 @@ takenAt place es = drop (suc place) es ++ take place es
 -- the image's "64 slot bytes from front to tail, unused ones 0"
 unfoldable pub places : List ℕ → List ℕ
 places es = es ++ replicate (64 - length es) 0
-
--- how often a slot stands in the list: of a Ready slot, acceptance asks that it "stands in the queues once"
-unfoldable pub count : ℕ → List ℕ → ℕ
-count slot [] = 0
-count slot (e ∷ es) = cond (eqb e slot) 1 0 + count slot es

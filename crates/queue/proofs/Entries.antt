@@ -11,7 +11,7 @@ use lib.Seq.{take-all, take-append-seam}
 use Rattle.records.specs.declared.ids.Slot.{Slot}
 use Rattle.records.specs.declared.ids.SlotOption.the-variants.{None, Some}
 use Rattle.records.proofs.Cases.{split}
-use Rattle.queue.specs.Rules.{full, takes, pushed, without, entryAt, takenAt, places}
+use Rattle.queue.specs.Entries.{full, takes, pushed, without, entryAt, takenAt, places}
 
 -- ---- a push
 

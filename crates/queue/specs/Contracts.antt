@@ -5,7 +5,7 @@ use Rattle.records.specs.declared.ids.Slot.{Slot}
 use Rattle.queue.specs.declared.BandQueue.{BandQueue}
 use Rattle.queue.specs.declared.Pushed.{Pushed}
 use Rattle.queue.specs.declared.Taken.{Taken}
-use Rattle.queue.specs.Rules.{takes, pushed, entryAt, takenAt}
+use Rattle.queue.specs.Entries.{takes, pushed, entryAt, takenAt}
 use Rattle.queue.specs.Stored.{entries, Holds}
 
 -- what a push of a slot answers

@@ -8,7 +8,7 @@ use borrow.Author.Tests.{lt-ltb, le-ltb}
 use lib.Dec.{eqb, ltb}
 use lib.ListN.{length, take, getD}
 use Rattle.replay.specs.Counted.{Counts, more, isName, withAnswer, withList, withLine}
-use Rattle.replay.specs.Stored.{asStored}
+use Rattle.replay.specs.Comparing.{asStored}
 
 -- an answer, by whether it is the stored one
 pub compares : (k : Counts) {is : Bool} (b : Bool) {calls differences : ℕ} → is ≡ b → calls ≡ more (k .calls) →
