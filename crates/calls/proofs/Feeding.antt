@@ -124,7 +124,8 @@ all-fed stream (b ∷ rest) end (fed, (written, later)) =
       ),
     )
 
--- so what is handed to be written is the answers to the lines of all that was read
+-- so the texts of these feedings, one behind the other, are the answers to the lines of all that was read; that they are the bytes passed on to be
+-- written is one line of `answer_block` to read
 pub input-answered : {s : QoSScheduler} {stream : Stream} → Begins s stream → (bs : List BlockFed) (end : Progress) → FeedsAll stream bs end →
     (fs : List Feeding) × (Feedings stream (inputOf bs) fs × (textOf fs ≡ answersTo (abs s) (lines (inputOf bs))))
 input-answered {s} {stream} begins bs end fed =

@@ -11,7 +11,7 @@ use Rattle.frames.specs.declared.read.ImageRead.{ImageRead}
 use Rattle.frames.specs.declared.read.ImageStatus.{ImageStatus}
 use Rattle.frames.specs.declared.read.ImageStatus.the-variants as read
 use Rattle.frames.specs.AcceptedImage.{AcceptedImage}
-use Rattle.frames.specs.Host.{imageStatus, readState, ReadAs, ReadsImage}
+use Rattle.frames.specs.ReadWrite.{imageStatus, readState, ReadAs, ReadsImage}
 use Rattle.frames.specs.Image.{stateAt}
 use Rattle.claims.specs.Demand3.{ReadFrom, Start, fromNew, fromImage, startState, Demand3}
 use Rattle.frames.proofs.AcceptedImages.{accepted-state}

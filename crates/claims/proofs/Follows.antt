@@ -15,7 +15,7 @@ use Rattle.claims.proofs.Histories.{a-reply}
 use Rattle.frames.specs.declared.decode.CallOption.{CallOption}
 use Rattle.frames.specs.declared.decode.CallOption.the-variants.{None, Some}
 use Rattle.claims.specs.Requests.{Protocol, callIn, callsAmong, Follows, Asks}
-use Rattle.frames.specs.Host.{ReadAs}
+use Rattle.frames.specs.ReadWrite.{ReadAs}
 use Rattle.frames.specs.Lines.{said}
 use Rattle.claims.specs.Demand3.{Start, startState}
 use Rattle.claims.proofs.Demand3.{start-as, demand3}

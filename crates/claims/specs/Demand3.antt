@@ -9,7 +9,7 @@ use Rattle.scheduler.specs.Scheduler.{IsNew}
 use Rattle.rules.specs.State.{State, newState}
 use Rattle.frames.specs.declared.read.ImageRead.{ImageRead}
 use Rattle.frames.specs.AcceptedImage.{AcceptedImage}
-use Rattle.frames.specs.Host.{ReadsImage}
+use Rattle.frames.specs.ReadWrite.{ReadsImage}
 use Rattle.frames.specs.Image.{stateAt}
 
 -- "from the state read from an accepted image": the scheduler in what the reader made of one

@@ -25,7 +25,7 @@ use Rattle.rules.proofs.Says.{Says, less, at-most, both, each, bands}
 use Rattle.frames.specs.Bytes.{part}
 use Rattle.frames.specs.Image.{imageLength, queuePlace, holdersPlace, recordIn, recordAt, queueAt, lengthByte, slotByte, stateAt}
 use Rattle.frames.specs.AcceptedImage.{codesFit, slotFits, placeFits, bandFits, coreFits, acceptsImage}
-use Rattle.frames.specs.ImageParts.{allZero, LengthsFit}
+use Rattle.frames.specs.Private.{allZero, LengthsFit}
 use Rattle.frames.proofs.Images.{task-read, task-past, queue-read, holder-byte}
 use Rattle.frames.proofs.AcceptedImages.{entry-read}
 use Rattle.frames.proofs.Passing.{Passing, zero-snoc, fails, holds}

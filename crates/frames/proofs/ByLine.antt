@@ -11,7 +11,7 @@ use lib.ListN.{length, drop, length-take}
 use Rattle.records.proofs.Cases.{split}
 use Rattle.rules.specs.State.{State}
 use Rattle.frames.specs.Lines.{newline, lineOf, some, answerTo, stateAfter}
-use Rattle.frames.specs.Stream.{longestLine, heldOf, FedSoFar, waits, pastByte, ended, fed}
+use Rattle.frames.specs.Stream.{heldOf, FedSoFar, waits, pastByte, ended, fed, heldMost}
 use Rattle.frames.proofs.Cuts.{test}
 use Rattle.frames.proofs.Streams.{held-more, held-short}
 
@@ -40,7 +40,7 @@ stopsAt s held used full = record { text = []; used = used; state = s; held = he
 
 -- ---- what is held, and whether there is anything of a line, one byte on
 
-held-none : (held : List ℕ) → length held ≤ longestLine + 1 → heldOf (held ++ []) ≡ held
+held-none : (held : List ℕ) → length held ≤ heldMost → heldOf (held ++ []) ≡ held
 held-none held short = ap heldOf (append-nil held) ∙ held-short held short
 
 held-on : (held : List ℕ) (b : ℕ) (line : List ℕ) → heldOf (heldOf (held ++ (b ∷ [])) ++ line) ≡ heldOf (held ++ b ∷ line)
@@ -116,7 +116,7 @@ module _ (last : Bool) (room : ℕ) (s : State) where
       sum : suc (r .used) ≡ 1 + r .used
       sum = omega arith
 
-  pub fed-line : (block held : List ℕ) → length held ≤ longestLine + 1 →
+  pub fed-line : (block held : List ℕ) → length held ≤ heldMost →
       fed last room s held block
       ≡ byParts (isEnded last held block) (heldOf (held ++ lineOf block)) (length (lineOf block)) (past block) (drop (past block) block)
   unfolding fed lineOf
@@ -137,7 +137,7 @@ module _ (last : Bool) (room : ℕ) (s : State) where
       ltb-alike (length line) (length block) (suc (length line)) (suc (length block)) (λ less. omega arith) (λ most. omega arith) in
       let one-more : suc (min (length line + 1) (length block)) ≡ min (suc (length line) + 1) (suc (length block)) = omega arith in
       rw e
-      (ap pastByte (fed-line block held′ (omega (arith, length-take (longestLine + 1) (held ++ (b ∷ [])))))
+      (ap pastByte (fed-line block held′ (omega (arith, length-take heldMost (held ++ (b ∷ [])))))
       ∙ past-parts (isEnded last held′ block) (heldOf (held′ ++ line)) (length line) (past block) (drop (past block) block)
       ∙ (λ i.
       byParts (inside i || (last && some-on held b line i)) (held-on held b line i) (suc (length line)) (one-more i) (drop (one-more i) (b ∷ block)))))

@@ -18,7 +18,7 @@ use Rattle.queue.proofs.Counts.{count-append, count-one, count-other, length-wi
 use Rattle.rules.specs.Accepted.{standings, onceIfReady, standsOnce}
 use Rattle.rules.specs.State.{State, task, queue}
 use Rattle.frames.specs.Image.{queueAt, stateAt}
-use Rattle.frames.specs.ImageParts.{LengthsFit, AtMost, Counted}
+use Rattle.frames.specs.Private.{LengthsFit, AtMost, Counted}
 use Rattle.frames.proofs.Images.{queue-read, getD-zeros}
 use Rattle.frames.proofs.AcceptedImages.{length-queueIn}
 

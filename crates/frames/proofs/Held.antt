@@ -10,8 +10,9 @@ use lib.ListN.{length, take, length-append, length-take}
 use lib.Seq.{sets, length-sets, length-take-le, sets-eq, take-at, take-all, take-append-add}
 use Rattle.scheduler.specs.declared.scheduler.QoSScheduler.{QoSScheduler}
 use Rattle.scheduler.specs.Scheduler.{Valid}
-use Rattle.frames.specs.declared.stream.Stream.{Stream}
-use Rattle.frames.specs.Stream.{heldIn, ValidStream, Begins, HoldsLine, Stops}
+use Rattle.frames.specs.declared.stream.Stream.{Stream, heldMost}
+use Rattle.frames.specs.Stream.{heldIn, ValidStream, Begins}
+use Rattle.frames.specs.Private.{HoldsLine, Stops}
 use Rattle.frames.proofs.Cuts.{test}
 
 take-min : (n : ℕ) (l : List ℕ) → take (min (length l) n) l ≡ take n l
@@ -23,13 +24,13 @@ take-min n l =
     take-all (min (length l) n) l (omega arith) ∙ sym (take-all n l short))
 
 -- more of a line behind so many bytes of it
-pub holds : (len : ℕ) (line before : List ℕ) {n : ℕ} {after : List ℕ} → len ≤ 61 → length before ≡ 61 → n ≡ min (length line) (61 - len) →
+pub holds : (len : ℕ) (line before : List ℕ) {n : ℕ} {after : List ℕ} → len ≤ heldMost → length before ≡ heldMost → n ≡ min (length line) (heldMost - len) →
     after ≡ sets before len (take n line) → HoldsLine len line before after (len + n)
 holds len line before {n} {after} low places is stored =
     let a : List ℕ = take len before in
     let size : length a ≡ len = length-take-le len before (omega arith) in
     let whole : length (a ++ take n line) ≡ len + n = omega (arith, length-append a (take n line), length-take n line) in
-    let room : length a + (61 - len) ≡ 61 = omega arith in
+    let room : length a + (heldMost - len) ≡ heldMost = omega arith in
     record {
       within = omega arith;
       places = ap length stored ∙ length-sets before len (take n line) ∙ places;
@@ -37,14 +38,14 @@ holds len line before {n} {after} low places is stored =
           ap (take (len + n))
           (stored ∙ sets-eq (take n line) before len (omega (arith, length-take n line)))
           ∙ take-at (a ++ take n line) _ (len + n) whole
-          ∙ ap (λ (l : List ℕ). a ++ l) (ap (λ (k : ℕ). take k line) is ∙ take-min (61 - len) line)
-          ∙ sym (take-append-add a line (61 - len))
+          ∙ ap (λ (l : List ℕ). a ++ l) (ap (λ (k : ℕ). take k line) is ∙ take-min (heldMost - len) line)
+          ∙ sym (take-append-add a line (heldMost - len))
           ∙ ap (λ (k : ℕ). take k (a ++ line)) room;
     }
 
 -- ---- a stream at the start of a line, and one that holds more
 
-pub begins : (s : QoSScheduler) (held : List ℕ) → Valid s → length held ≡ 61 → Begins s (record { state = s; held = held; len = 0 })
+pub begins : (s : QoSScheduler) (held : List ℕ) → Valid s → length held ≡ heldMost → Begins s (record { state = s; held = held; len = 0 })
 unfolding heldIn
 begins s held valid places = record { valid = record { valid = valid; places = places; within = omega arith }; state-is = refl; held-is = refl }
 

@@ -33,9 +33,10 @@ use Rattle.frames.specs.AcceptedImage.{AcceptedImage, acceptsImage}
 use Rattle.frames.specs.Answer.{answerBytes}
 use Rattle.frames.specs.Bytes.{Puts}
 use Rattle.frames.specs.Frame.{frameCall}
-use Rattle.frames.specs.Host.{hostNumber, refusalReturned, answerRoom, imageStatus, ReadAs, OnImage, onImage, calledIn, callOnImage, firstImage, hostNew, Hosted, hosted, hostRefused, hostCalled, hostStep, refusalIn, CalledOn}
+use Rattle.frames.specs.Host.{hostNumber, refusalReturned, answerRoom, OnImage, onImage, calledIn, callOnImage, firstImage, hostNew, Hosted, hosted, hostRefused, hostCalled, hostStep}
+use Rattle.frames.specs.Private.{refusalIn, CalledOn}
+use Rattle.frames.specs.ReadWrite.{imageStatus, ReadAs, WritesImage}
 use Rattle.frames.specs.Image.{imageLength, imageOf, stateAt}
-use Rattle.frames.specs.ImageParts.{WritesImage}
 use Rattle.frames.proofs.Images.{writes-back}
 
 pub hostNumber-small : (e : HostError) → hostNumber e ≤ 9

@@ -13,7 +13,7 @@ use Rattle.frames.specs.Answer.{answerBytes}
 use Rattle.frames.specs.Bytes.{Puts}
 use Rattle.frames.specs.Hex.{toHex}
 use Rattle.frames.specs.Lines.{newline, noFrame, lineText}
-use Rattle.frames.specs.Stream.{fitting, PutsLine}
+use Rattle.frames.specs.Private.{fitting, PutsLine}
 use Rattle.frames.proofs.Cuts.{test}
 use Rattle.frames.proofs.Digits.{length-toHex}
 use Rattle.frames.proofs.Sizes.{answer-fits}

@@ -12,7 +12,7 @@ use lib.ListN.{length, getD, take}
 use lib.Seq.{take-suc}
 use Rattle.records.proofs.Cases.{split}
 use Rattle.records.specs.Lists.{every, everyBelow}
-use Rattle.frames.specs.ImageParts.{allZero}
+use Rattle.frames.specs.Private.{allZero}
 
 -- a test that a call answered by r, after the code asked `!r`
 module _ {test r : Bool} (is : r ≡ test) where

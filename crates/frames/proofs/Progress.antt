@@ -12,9 +12,10 @@ use lib.Seq.{sets, length-sets, drop-drop, length-take-le}
 use Rattle.scheduler.specs.declared.scheduler.QoSScheduler.{QoSScheduler}
 use Rattle.scheduler.specs.Scheduler.{abs, Valid}
 use Rattle.frames.specs.declared.stream.Fed.{Fed}
-use Rattle.frames.specs.declared.stream.Stream.{Stream}
+use Rattle.frames.specs.declared.stream.Stream.{Stream, heldMost}
 use Rattle.frames.specs.Lines.{lineOf, lineText, some, answerTo, stateAfter}
-use Rattle.frames.specs.Stream.{heldOf, FedSoFar, fed, heldIn, ValidStream, fedBy, Feeds, PutsLine, Stops}
+use Rattle.frames.specs.Stream.{heldOf, FedSoFar, fed, heldIn, ValidStream, fedBy, Feeds}
+use Rattle.frames.specs.Private.{PutsLine, Stops}
 use Rattle.frames.proofs.ByLine.{onward, onward-none, onward-onward, past, stopsAt, byParts, ltb-alike, fed-line}
 use Rattle.frames.proofs.Cuts.{test, line-within}
 use Rattle.frames.proofs.LinePuts.{was-put, put-in, was-not-put}
@@ -31,8 +32,8 @@ pub record Going (last : Bool) (start : Stream) (block before out : List ℕ) (s
   pub out-is : out ≡ sets before 0 done
   pub length-is : length out ≡ length before
   pub valid : Valid state
-  pub places : length (start .held) ≡ 61
-  pub within : len ≤ 61
+  pub places : length (start .held) ≡ heldMost
+  pub within : len ≤ heldMost
   pub written-in : written ≤ length before
   pub used-in : used ≤ length block
 

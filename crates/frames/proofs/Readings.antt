@@ -17,14 +17,14 @@ use Rattle.queue.specs.Stored.{Holds}
 use Rattle.scheduler.specs.declared.scheduler.QoSScheduler.{QoSScheduler}
 use Rattle.records.specs.Lists.{Each}
 use Rattle.rules.specs.Accepted.{Accepted}
-use Rattle.scheduler.specs.Scheduler.{abs, queuesOf, HoldQueues, IsNew}
+use Rattle.scheduler.specs.Scheduler.{abs, queuesOf, IsNew, HoldQueues}
 use Rattle.rules.specs.State.{queue}
 use Rattle.frames.specs.declared.read.ImageStatus.{ImageStatus}
 use Rattle.frames.specs.declared.read.ImageStatus.the-variants as read
 use Rattle.frames.specs.declared.refusal.HostError.{HostError}
 use Rattle.frames.specs.AcceptedImage.{AcceptedImage}
 use Rattle.frames.specs.Bytes.{part, IsNumber}
-use Rattle.frames.specs.Host.{imageStatus, readState, ReadAs, ReadsImage}
+use Rattle.frames.specs.ReadWrite.{imageStatus, readState, ReadAs, ReadsImage}
 use Rattle.frames.specs.Image.{holdersPlace, microsPlace, imageLength, queuePlace, recordIn, recordAt, queueAt, lengthByte, stateAt}
 use Rattle.frames.proofs.AcceptedImages.{accepted-state}
 use Rattle.frames.proofs.Images.{length-tasks, task-read, queue-read}

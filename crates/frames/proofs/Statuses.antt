@@ -12,7 +12,7 @@ use Rattle.rules.specs.Accepted.{Accepted}
 use Rattle.frames.specs.declared.read.ImageStatus.the-variants as read
 use Rattle.frames.specs.declared.refusal.HostError.the-variants.{WrongLength, NotAccepted}
 use Rattle.frames.specs.AcceptedImage.{AcceptedImage, acceptsImage}
-use Rattle.frames.specs.Host.{imageStatus}
+use Rattle.frames.specs.ReadWrite.{imageStatus}
 use Rattle.frames.specs.Image.{imageLength}
 use Rattle.frames.proofs.AcceptedImages.{accepts-image}
 

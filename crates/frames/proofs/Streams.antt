@@ -14,7 +14,7 @@ use Rattle.scheduler.specs.Scheduler.{abs}
 use Rattle.rules.specs.State.{State}
 use Rattle.frames.specs.declared.decode.CallOption.{CallOption}
 use Rattle.frames.specs.declared.stream.Fed.{Fed}
-use Rattle.frames.specs.declared.stream.Stream.{Stream}
+use Rattle.frames.specs.declared.stream.Stream.{Stream, heldMost}
 use Rattle.frames.specs.Hex.{toHex}
 use Rattle.frames.specs.Lines.{newline, lineCall, said, saidTo, lineText, some, answerTo, stateAfter}
 use Rattle.frames.specs.Stream.{longestLine, longestAnswer, heldOf, FedSoFar, waits, answering, pastByte, ended, fed, heldIn, fedBy, Feeds}
@@ -32,10 +32,10 @@ take-first (suc n) (x ∷ a) b = ap (λ (l : List ℕ). x ∷ l) (take-first n a
 
 -- more behind it is more behind the line
 pub held-more : (line more : List ℕ) → heldOf (heldOf line ++ more) ≡ heldOf (line ++ more)
-held-more line more = take-first (longestLine + 1) line more
+held-more line more = take-first heldMost line more
 
-pub held-short : (held : List ℕ) → length held ≤ longestLine + 1 → heldOf held ≡ held
-held-short held short = take-all (longestLine + 1) held short
+pub held-short : (held : List ℕ) → length held ≤ heldMost → heldOf held ≡ held
+held-short held short = take-all heldMost held short
 
 -- it is told what the line is: a longer line than any frame is refused, and so is what is held of it
 pub call-held : (line : List ℕ) → lineCall (heldOf line) ≡ lineCall line
@@ -44,7 +44,7 @@ call-held line =
     (λ short. ap lineCall (held-short line (omega (arith, leb-true (length line) longestLine short))))
     (λ long.
     let far : longestLine < length line = leb-false (length line) longestLine long in
-    long-line (heldOf line) (omega (arith, length-take (longestLine + 1) line)) ∙ sym (long-line line far))
+    long-line (heldOf line) (omega (arith, length-take heldMost line)) ∙ sym (long-line line far))
 
 module _ (line : List ℕ) (s : State) where
   pub answer-held : answerTo (heldOf line) s ≡ answerTo line s

@@ -29,7 +29,8 @@ use Rattle.frames.specs.Answer.{recordBytes}
 use Rattle.frames.specs.Bytes.{bytesOf}
 use Rattle.frames.specs.Image.{recordLength, recordPlace, queueLength, queuesPlace, holdersPlace, microsPlace, imageLength, recordsBytes, queueBytes, queuesBytes, imageOf, stateAt}
 use Rattle.frames.specs.Fits.{HasImage}
-use Rattle.frames.specs.ImageParts.{Short, WritesImage}
+use Rattle.frames.specs.Private.{Short}
+use Rattle.frames.specs.ReadWrite.{WritesImage}
 use Rattle.frames.proofs.Images.{length-recordsBytes, length-tasks, length-queueBytes, records-first, length-imageOf, writes-back}
 use Rattle.frames.proofs.Runs.{behind, run-on}
 use Rattle.frames.proofs.Sizes.{length-recordBytes}

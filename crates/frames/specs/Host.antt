@@ -1,24 +1,19 @@
--- Document 01, "Call frames": "The host kernel, written in C, passes image, frame bytes and answer buffer." What the reader makes of bytes, what a
--- call makes of an image, and what a frame makes of an image and a buffer: the table of refusals in its order, on lists of bytes.
-use mathlib.Core.Path.{_≡_}
+-- Document 01, "Call frames": "The host kernel, written in C, passes image, frame bytes and answer buffer." What a call
+-- makes of an image, and what a frame makes of an image and a buffer: the table of refusals in its order, on lists of bytes.
 use mathlib.Core.Bool.{Bool, cond, not, _||_}
 use mathlib.Core.List.{List}
 use Prim.Native.Nat.{ℕ, _+_}
 use lib.Dec.{ltb, eqb}
 use lib.ListN.{length}
 use lib.Seq.{sets}
-use Rattle.rules.specs.declared.answer.Answer.{Answer}
 use Rattle.rules.specs.declared.call.Call.{Call}
-use Rattle.scheduler.specs.declared.scheduler.QoSScheduler.{QoSScheduler}
 use Rattle.rules.specs.Outcome.{Outcome}
-use Rattle.scheduler.specs.Scheduler.{abs, Valid}
-use Rattle.rules.specs.State.{State, newState}
+use Rattle.rules.specs.State.{newState}
 use Rattle.rules.specs.Step.{step}
 use Rattle.frames.specs.declared.decode.CallOption.{CallOption}
 use Rattle.frames.specs.declared.decode.CallOption.the-variants.{None, Some}
 use Rattle.frames.specs.declared.host.ImageAnswer.{ImageAnswer}
 use Rattle.frames.specs.declared.host.ImageAnswer.the-variants as told
-use Rattle.frames.specs.declared.read.ImageRead.{ImageRead}
 use Rattle.frames.specs.declared.read.ImageStatus.{ImageStatus}
 use Rattle.frames.specs.declared.read.ImageStatus.the-variants as read
 use Rattle.frames.specs.declared.refusal.HostError.{HostError}
@@ -27,6 +22,7 @@ use Rattle.frames.specs.AcceptedImage.{acceptsImage}
 use Rattle.frames.specs.Answer.{answerBytes}
 use Rattle.frames.specs.Frame.{frameCall}
 use Rattle.frames.specs.Image.{imageLength, imageOf, stateAt}
+use Rattle.frames.specs.ReadWrite.{imageStatus}
 
 -- "host entry, lengths: 7", "host entry, image: 8", "frame: 9"
 abbrev pub hostNumber : HostError → ℕ
@@ -41,29 +37,6 @@ refusalReturned e = 256 + hostNumber e
 -- an "answer buffer under 51" is refused
 abbrev pub answerRoom : ℕ
 answerRoom = 51
-
--- ---- reading an image
-
--- 7 "image not 3,275 bytes", then 8 "not accepted"
-unfoldable pub imageStatus : List ℕ → ImageStatus
-imageStatus image =
-    cond (not (eqb (length image) imageLength)) (read.Refused WrongLength)
-    (cond (not (acceptsImage image)) (read.Refused NotAccepted) read.Accepted)
-
--- the state that an accepted image stands for; the new state, where the image is refused
-abbrev pub readState : ImageStatus → List ℕ → State
-readState read.Accepted image = stateAt image
-readState (read.Refused e) image = newState
-
--- a valid scheduler of this state
-pub record ReadAs (s : State) (r : QoSScheduler) : Type 0 where
-  pub valid : Valid r
-  pub state-is : abs r ≡ s
-
--- what the reader promises of any bytes
-pub record ReadsImage (image : List ℕ) (r : ImageRead) : Type 0 where
-  pub status-is : r .status ≡ imageStatus image
-  pub read-as : ReadAs (readState (imageStatus image) image) (r .state)
 
 -- ---- a call on an image
 
@@ -131,18 +104,3 @@ hostStep image frame answer =
     cond (wrongLength image answer) (hostRefused WrongLength image answer)
     (cond (not (acceptsImage image)) (hostRefused NotAccepted image answer)
     (hostCalled (frameCall frame) image answer))
-
--- ---- what the private parts promise
-
--- the refusal where there is no call: the image's own comes first
-abbrev pub refusalIn : ImageStatus → HostError
-refusalIn (read.Refused e) = e
-refusalIn read.Accepted = NoFrame
-
-abbrev pub refusalOf : List ℕ → HostError
-refusalOf image = refusalIn (imageStatus image)
-
--- a call on an accepted image: its answer, and the image of the state after it
-pub record CalledOn (call : Call) (before after : List ℕ) (answer : Answer) : Type 0 where
-  pub answer-is : answer ≡ step call (stateAt before) .answer
-  pub image-is : after ≡ imageOf (step call (stateAt before) .state)

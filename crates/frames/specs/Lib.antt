@@ -8,8 +8,9 @@
 --   Image           the bytes of a state, and the state that bytes stand for
 --   AcceptedImage   which images are accepted
 --   Fits            calls and answers whose numbers fit their fields, and states that have an image
---   ImageParts      what the writer of images promises, and the parts of writer and test
---   Host            what the reader of images, a call on an image and the host entry promise
+--   ReadWrite       what the reader and the writer of images promise
+--   Host            what a call on an image and the host entry promise
+--   Private         what the private functions promise
 pub mod Bytes
 pub mod Hex
 pub mod Frame
@@ -19,5 +20,6 @@ pub mod Stream
 pub mod Image
 pub mod AcceptedImage
 pub mod Fits
-pub mod ImageParts
+pub mod ReadWrite
 pub mod Host
+pub mod Private

@@ -12,8 +12,7 @@ use Rattle.scheduler.specs.Scheduler.{abs, Valid}
 use Rattle.rules.specs.State.{State}
 use Rattle.frames.specs.declared.stream.Fed.{Fed}
 use Rattle.frames.specs.declared.stream.Stream.{Stream}
-use Rattle.frames.specs.Bytes.{Puts}
-use Rattle.frames.specs.Lines.{newline, some, lineText, answerTo, stateAfter}
+use Rattle.frames.specs.Lines.{newline, some, answerTo, stateAfter}
 
 -- ---- what a block makes of a state and of the start of a line
 
@@ -26,8 +25,11 @@ abbrev pub longestAnswer : ℕ
 longestAnswer = 103
 
 -- What is held of a line: of one that is longer than any frame only so much that this shows, since it is refused whatever follows.
+abbrev pub heldMost : ℕ
+heldMost = longestLine + 1
+
 abbrev pub heldOf : List ℕ → List ℕ
-heldOf line = take (longestLine + 1) line
+heldOf line = take heldMost line
 
 pub record FedSoFar : Type 0 where
   -- the answers
@@ -74,8 +76,8 @@ heldIn stream = take (stream .len) (stream .held)
 -- what is presumed of a stream: `new` and every feeding ensure it
 pub record ValidStream (stream : Stream) : Type 0 where
   pub valid : Valid (stream .state)
-  pub places : length (stream .held) ≡ longestLine + 1
-  pub within : stream .len ≤ longestLine + 1
+  pub places : length (stream .held) ≡ heldMost
+  pub within : stream .len ≤ heldMost
 
 -- a stream over a scheduler, at the start of a line
 pub record Begins (s : QoSScheduler) (stream : Stream) : Type 0 where
@@ -98,28 +100,3 @@ pub record Feeds (last : Bool) (stream : Stream) (block before after : List ℕ)
   pub written-is : r .written ≡ length (fedBy last stream block (length before) .text)
   pub written-in : r .written ≤ length before
   pub buffer-is : after ≡ sets before 0 (fedBy last stream block (length before) .text)
-
--- ---- what the private parts promise
-
--- a line of text as far as it has room: all of it, or nothing
-abbrev pub fitting : ℕ → List ℕ → List ℕ
-fitting room line = cond (leb (length line) room) line []
-
--- an answer as a line of text from a place on, if it has room there
-abbrev pub PutsLine : List ℕ → ℕ → List ℕ → List ℕ → ℕ → Type 0
-PutsLine bytes at before after r = Puts (fitting (length before - at) (lineText bytes)) at before after r
-
--- so many bytes are held of a line, and now more of it
-pub record HoldsLine (len : ℕ) (line before after : List ℕ) (r : ℕ) : Type 0 where
-  pub within : r ≤ longestLine + 1
-  pub places : length after ≡ longestLine + 1
-  pub held-is : take r after ≡ heldOf (take len before ++ line)
-
--- the stream with more of its line held, and the other parts as they are given
-pub record Stops (stream : Stream) (line : List ℕ) (used written : ℕ) (full : Bool) (r : Fed) : Type 0 where
-  pub valid : ValidStream (r .stream)
-  pub state-is : r .stream .state ≡ stream .state
-  pub held-is : heldIn (r .stream) ≡ heldOf (heldIn stream ++ line)
-  pub used-is : r .used ≡ used
-  pub written-is : r .written ≡ written
-  pub full-is : r .«is_full» ≡ full

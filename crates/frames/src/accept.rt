@@ -8,7 +8,7 @@ ghost use Rattle.rules.specs.Accepted.{readyOf, onceIfReady, standsOnce};
 ghost use Rattle.rules.specs.State.{bandOrder, task, queue};
 ghost use Rattle.frames.specs.Image.{imageLength, queueAt, lengthByte, stateAt};
 ghost use Rattle.frames.specs.AcceptedImage.{acceptsImage, slotFits, bandFits, coreFits};
-ghost use Rattle.frames.specs.ImageParts.{allZero, LengthsFit, AtMost, Counted};
+ghost use Rattle.frames.specs.Private.{allZero, LengthsFit, AtMost, Counted};
 use crate::bytes::wide;
 use crate::fields::band_in;
 use crate::fields::is_ready;

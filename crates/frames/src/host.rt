@@ -1,7 +1,8 @@
 // What a host kernel calls: a new image, and a frame on an image with its answer in a buffer; and any call on an image.
 ghost use mathlib.Core.Path.{_≡_};
 ghost use Rattle.frames.specs.AcceptedImage.{AcceptedImage};
-ghost use Rattle.frames.specs.Host.{refusalReturned, refusalOf, onImage, callOnImage, CalledOn, firstImage, hostNew, hosted, hostStep};
+ghost use Rattle.frames.specs.Host.{refusalReturned, onImage, callOnImage, firstImage, hostNew, hosted, hostStep};
+ghost use Rattle.frames.specs.Private.{refusalOf, CalledOn};
 use crate::decode::CallOption;
 use crate::decode::read_frame;
 use crate::encode::ANSWER_MAX;

@@ -5,7 +5,7 @@ ghost use lib.ListN.{length, drop};
 ghost use lib.Seq.{sets};
 ghost use Rattle.frames.specs.Answer.{answerBytes};
 ghost use Rattle.frames.specs.Lines.{lineOf, lineCall, noFrame, lineText};
-ghost use Rattle.frames.specs.Stream.{PutsLine};
+ghost use Rattle.frames.specs.Private.{PutsLine};
 use crate::bytes::put_bytes;
 use crate::decode::CallOption;
 use crate::decode::read_frame;

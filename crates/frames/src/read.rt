@@ -5,7 +5,7 @@ ghost use Rattle.queue.specs.Stored.{Holds};
 ghost use Rattle.scheduler.specs.Scheduler.{HoldQueues};
 ghost use Rattle.rules.specs.State.{queue};
 ghost use Rattle.frames.specs.AcceptedImage.{AcceptedImage};
-ghost use Rattle.frames.specs.Host.{imageStatus, ReadsImage, ReadAs};
+ghost use Rattle.frames.specs.ReadWrite.{imageStatus, ReadsImage, ReadAs};
 ghost use Rattle.frames.specs.Image.{imageLength, stateAt};
 use crate::accept::accepts_image;
 use crate::bytes::number;

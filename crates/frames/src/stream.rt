@@ -7,7 +7,8 @@ ghost use lib.Dec.{ltb};
 ghost use lib.ListN.{take};
 ghost use Rattle.scheduler.specs.Scheduler.{Valid};
 ghost use Rattle.frames.specs.Lines.{lineCall};
-ghost use Rattle.frames.specs.Stream.{heldOf, ValidStream, Begins, Feeds, HoldsLine, Stops};
+ghost use Rattle.frames.specs.Stream.{heldOf, ValidStream, Begins, Feeds, heldMost};
+ghost use Rattle.frames.specs.Private.{HoldsLine, Stops};
 use crate::bytes::put_all;
 use crate::decode::CallOption;
 use crate::lines::LINE_MAX;
@@ -107,7 +108,7 @@ fn is_ended(is_closed: bool, last: bool, held: usize, more: usize) -> bool
 
 // The call of a line of which so many bytes are held.
 fn call_of(held: &[u8; HELD_MAX], len: usize, line: &[u8]) -> CallOption
-    requires { ⌜ len ≤ 61 ⌝ }
+    requires { ⌜ len ≤ heldMost ⌝ }
     ensures { λ r. ⌜ r ≡ lineCall (heldOf (take len (now (held .entry)) ++ now (line .entry))) ⌝ }
 {
     if len == 0 {
@@ -136,7 +137,7 @@ fn stopped(stream: Stream, line: &[u8], used: usize, written: usize, is_full: bo
 
 // More of a line held, behind so many bytes of it, as far as there is room; says how many bytes are held then.
 fn hold(held: &mut [u8; HELD_MAX], len: usize, line: &[u8]) -> usize
-    requires { ⌜ len ≤ 61 ⌝ }
+    requires { ⌜ len ≤ heldMost ⌝ }
     ensures { λ r. ⌜ HoldsLine len (now (line .entry)) (now (held .entry)) (now (held .exit)) r ⌝ }
 {
     let n = least(line.len(), HELD_MAX - len);

@@ -34,7 +34,8 @@ use Rattle.rules.specs.Accepted.{Accepted, ReadyOf}
 use Rattle.rules.specs.Outcome.{Chosen, answered}
 use Rattle.rules.specs.Picking.{permitted, placeFor, choice, afterPick, ruleP, answerSlot, schedule}
 use Rattle.rules.specs.Ticking.{waitsBefore}
-use Rattle.scheduler.specs.Scheduler.{queuesOf, abs, Valid, Meets, Gives, answerIn, whoRuns, HoldQueues, toldBy}
+use Rattle.scheduler.specs.Scheduler.{queuesOf, abs, Valid, Meets, HoldQueues}
+use Rattle.scheduler.specs.Private.{Gives, answerIn, whoRuns, toldBy}
 use Rattle.rules.proofs.Calls.{call-accepted}
 use Rattle.rules.proofs.Invariant.{ready-in-table}
 use Rattle.rules.proofs.Picks.{P-past, P-below}

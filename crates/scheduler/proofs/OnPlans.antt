@@ -28,7 +28,8 @@ use Rattle.rules.specs.Accepted.{Accepted}
 use Rattle.rules.specs.Picking.{ruleP}
 use Rattle.rules.specs.Waking.{enqueued}
 use Rattle.rules.specs.Ticking.{cleared, answerPlan, yieldHolder, yield, handoffIn, handoffHolder, handoff}
-use Rattle.scheduler.specs.Scheduler.{queuesOf, abs, Valid, Meets, Gives, HoldQueues, toldBy, refusedBy}
+use Rattle.scheduler.specs.Scheduler.{queuesOf, abs, Valid, Meets, HoldQueues}
+use Rattle.scheduler.specs.Private.{Gives, toldBy, refusedBy}
 use Rattle.rules.proofs.Effects.{enqueue-done, idle-in, yields}
 use Rattle.scheduler.proofs.Holders.{harmless-accepted, known, held, holder-may, holder-below, let-go, let-go-is}
 use Rattle.scheduler.proofs.Promises.{meets-told, meets-refused, meets-given}

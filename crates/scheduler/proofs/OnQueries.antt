@@ -31,7 +31,8 @@ use Rattle.rules.specs.Accepted.{Accepted}
 use Rattle.rules.specs.Queries.{canRunOnCore, hasTid, taskIndexForTid, taskAt, holderRecord, currentTaskOnCpu, coreOf}
 use Rattle.rules.specs.Ticking.{same}
 use Rattle.rules.specs.Waking.{released}
-use Rattle.scheduler.specs.Scheduler.{queuesOf, abs, Valid, IsNew, switchTo, targetWith, whoRuns}
+use Rattle.scheduler.specs.Scheduler.{queuesOf, abs, Valid, IsNew}
+use Rattle.scheduler.specs.Private.{switchTo, targetWith, whoRuns}
 use Rattle.rules.proofs.Calls.{new-accepted}
 use Rattle.scheduler.proofs.Holders.{held, holder-below}
 use Rattle.scheduler.proofs.Searches.{search-found}

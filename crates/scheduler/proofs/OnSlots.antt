@@ -34,7 +34,8 @@ use Rattle.scheduler.specs.declared.scheduler.QoSScheduler.{QoSScheduler
 use Rattle.scheduler.specs.declared.scheduler.Reply.{Reply}
 use Rattle.rules.specs.State.{task, queue, eachQueue}
 use Rattle.rules.specs.Outcome.{answered}
-use Rattle.scheduler.specs.Scheduler.{queuesOf, abs, Valid, Meets, HoldQueues, refusedBy}
+use Rattle.scheduler.specs.Scheduler.{queuesOf, abs, Valid, Meets, HoldQueues}
+use Rattle.scheduler.specs.Private.{refusedBy}
 use Rattle.rules.specs.Waking.{freeSlot, create, released, affinity, terminate, missing, block, wake, enqueue}
 use Rattle.scheduler.proofs.Promises.{leaving, meets-put, kept, meets-refused, meets-as}
 use Rattle.scheduler.proofs.Arrays.{slots, record-at, queue-at, pushed-back}

@@ -38,7 +38,8 @@ use Rattle.rules.specs.Outcome.{Chosen, answered, done}
 use Rattle.rules.specs.Picking.{noChoice, ruleP}
 use Rattle.rules.specs.Ticking.{gain, waitsBefore, sliceOver, requeued, staysHolder, ticked, tick, answerPlan, planned}
 use Rattle.rules.specs.Took.{outOfSlice}
-use Rattle.scheduler.specs.Scheduler.{queuesOf, abs, Whole, Valid, Meets, Gives, answerIn, whoRuns, HoldQueues, toldBy}
+use Rattle.scheduler.specs.Scheduler.{queuesOf, abs, Whole, Valid, Meets, HoldQueues}
+use Rattle.scheduler.specs.Private.{Gives, answerIn, whoRuns, toldBy}
 use Rattle.rules.proofs.Calls.{call-accepted}
 use Rattle.rules.proofs.Effects.{slice-ends}
 use Rattle.scheduler.proofs.Holders.{harmless-accepted, known, held, holder-may, holder-below, let-go, let-go-is}

@@ -25,7 +25,8 @@ use Rattle.rules.specs.Accepted.{Accepted}
 use Rattle.rules.specs.Outcome.{Outcome, Chosen, answered, done, refused}
 use Rattle.rules.specs.Ticking.{targetOf, planTo}
 use Rattle.rules.specs.Step.{step}
-use Rattle.scheduler.specs.Scheduler.{queuesOf, abs, Whole, Valid, Meets, toldBy, refusedBy, Gives, answerIn, targetWith, whoRuns, HoldQueues}
+use Rattle.scheduler.specs.Scheduler.{queuesOf, abs, Whole, Valid, Meets, HoldQueues}
+use Rattle.scheduler.specs.Private.{toldBy, refusedBy, Gives, answerIn, targetWith, whoRuns}
 use Rattle.rules.proofs.Calls.{call-accepted}
 
 -- a reply with these arrays, and the time as it was

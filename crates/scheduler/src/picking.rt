@@ -3,7 +3,8 @@
 ghost use mathlib.Core.Path.{_≡_};
 ghost use Prim.Native.Nat.{_<_};
 ghost use Rattle.rules.specs.Picking.{ruleP};
-ghost use Rattle.scheduler.specs.Scheduler.{Valid, Meets, Gives, abs, answerIn, whoRuns, switchTo};
+ghost use Rattle.scheduler.specs.Scheduler.{Valid, Meets, abs};
+ghost use Rattle.scheduler.specs.Private.{Gives, answerIn, whoRuns, switchTo};
 ghost use Rattle.rules.specs.Ticking.{same};
 use crate::answer::done;
 use crate::scheduler::NO_HOLDER;

@@ -1,6 +1,7 @@
 // The scheduler's state, by value: its parts, the new one, and `apply`, which does any call.
 ghost use mathlib.Core.Path.{_≡_};
-ghost use Rattle.scheduler.specs.Scheduler.{Valid, IsNew, Meets, toldBy, refusedBy};
+ghost use Rattle.scheduler.specs.Scheduler.{Valid, IsNew, Meets};
+ghost use Rattle.scheduler.specs.Private.{toldBy, refusedBy};
 ghost use Rattle.rules.specs.State.{holderIn};
 use crate::answer::done;
 use crate::answer::refused;

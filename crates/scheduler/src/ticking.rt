@@ -1,5 +1,6 @@
 // Tick, yield, handoff and plan.
-ghost use Rattle.scheduler.specs.Scheduler.{Valid, Meets, Gives, abs, answerIn};
+ghost use Rattle.scheduler.specs.Scheduler.{Valid, Meets, abs};
+ghost use Rattle.scheduler.specs.Private.{Gives, answerIn};
 ghost use Rattle.rules.specs.State.{holderOf};
 ghost use Rattle.rules.specs.Ticking.{ticked, waitsBefore};
 ghost use mathlib.Core.Path.{_≡_};

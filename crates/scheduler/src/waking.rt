@@ -1,6 +1,6 @@
 // Waiting and waking: create, affinity, terminate, block, wake and enqueue.
 ghost use Rattle.queue.specs.Entries.{without};
-ghost use Rattle.scheduler.specs.Scheduler.{Valid, Meets, Whole, HoldQueues, queuesOf};
+ghost use Rattle.scheduler.specs.Scheduler.{Valid, Meets, Whole, queuesOf, HoldQueues};
 ghost use Rattle.records.specs.Lists.{firstPlace};
 ghost use Rattle.rules.specs.State.{eachQueue};
 ghost use Rattle.rules.specs.Waking.{released};

@@ -5,7 +5,7 @@ use borrow.Author.Needs.{needs}
 use lib.Dec.{eqb}
 use lib.ListN.{length, take}
 use lib.Seq.{take-all}
-use Rattle.frames.specs.ImageParts.{allZero}
+use Rattle.frames.specs.Private.{allZero}
 use Rattle.frames.proofs.Passing.{zeros-begin, zeros-on}
 use Rattle.frames.proofs.accept.all_zero.Statement.{statement}
 use Rattle.frames.proofs.accept.all_zero.Tie as tie

@@ -1,7 +1,7 @@
 -- `without_call` meets its contract: the image's refusal, or else the frame's. Assumes nothing.
 use mathlib.Core.Path.{sym, ap, _∙_}
 use borrow.Author.Needs.{needs}
-use Rattle.frames.specs.Host.{refusalIn}
+use Rattle.frames.specs.Private.{refusalIn}
 use Rattle.frames.proofs.host.without_call.Statement.{statement}
 use Rattle.frames.proofs.host.without_call.Tie as tie
 

@@ -2,7 +2,7 @@
 use mathlib.Core.Path.{sym, ap}
 use borrow.Author.Needs.{needs}
 use Rattle.records.specs.declared.ids.SlotOption.{SlotOption}
-use Rattle.scheduler.specs.Scheduler.{targetWith}
+use Rattle.scheduler.specs.Private.{targetWith}
 use Rattle.scheduler.proofs.OnQueries.{plan-none, plan-other}
 use Rattle.scheduler.proofs.picking.plan.Statement.{statement}
 use Rattle.scheduler.proofs.picking.plan.Tie as tie

@@ -2,7 +2,7 @@
 use mathlib.Core.Path.{sym, ap, _∙_}
 use borrow.Author.Needs.{needs}
 use Rattle.scheduler.specs.declared.picking.Form.{Form}
-use Rattle.scheduler.specs.Scheduler.{whoRuns}
+use Rattle.scheduler.specs.Private.{whoRuns}
 use Rattle.scheduler.proofs.picking.who_runs.Statement.{statement}
 use Rattle.scheduler.proofs.picking.who_runs.Tie as tie
 
