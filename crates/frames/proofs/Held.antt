@@ -10,8 +10,8 @@ use lib.ListN.{length, take, length-append, length-take}
 use lib.Seq.{sets, length-sets, length-take-le, sets-eq, take-at, take-all, take-append-add}
 use Rattle.scheduler.specs.declared.scheduler.QoSScheduler.{QoSScheduler}
 use Rattle.scheduler.specs.Scheduler.{Valid}
-use Rattle.frames.specs.declared.stream.Stream.{Stream, heldMost}
-use Rattle.frames.specs.Stream.{heldIn, ValidStream, Begins}
+use Rattle.frames.specs.declared.stream.Stream.{Stream}
+use Rattle.frames.specs.Stream.{heldIn, ValidStream, Begins, heldMost}
 use Rattle.frames.specs.Private.{HoldsLine, Stops}
 use Rattle.frames.proofs.Cuts.{test}
 

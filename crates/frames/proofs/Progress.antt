@@ -12,9 +12,9 @@ use lib.Seq.{sets, length-sets, drop-drop, length-take-le}
 use Rattle.scheduler.specs.declared.scheduler.QoSScheduler.{QoSScheduler}
 use Rattle.scheduler.specs.Scheduler.{abs, Valid}
 use Rattle.frames.specs.declared.stream.Fed.{Fed}
-use Rattle.frames.specs.declared.stream.Stream.{Stream, heldMost}
+use Rattle.frames.specs.declared.stream.Stream.{Stream}
 use Rattle.frames.specs.Lines.{lineOf, lineText, some, answerTo, stateAfter}
-use Rattle.frames.specs.Stream.{heldOf, FedSoFar, fed, heldIn, ValidStream, fedBy, Feeds}
+use Rattle.frames.specs.Stream.{heldOf, FedSoFar, fed, heldIn, ValidStream, fedBy, Feeds, heldMost}
 use Rattle.frames.specs.Private.{PutsLine, Stops}
 use Rattle.frames.proofs.ByLine.{onward, onward-none, onward-onward, past, stopsAt, byParts, ltb-alike, fed-line}
 use Rattle.frames.proofs.Cuts.{test, line-within}

@@ -14,10 +14,10 @@ use Rattle.scheduler.specs.Scheduler.{abs}
 use Rattle.rules.specs.State.{State}
 use Rattle.frames.specs.declared.decode.CallOption.{CallOption}
 use Rattle.frames.specs.declared.stream.Fed.{Fed}
-use Rattle.frames.specs.declared.stream.Stream.{Stream, heldMost}
+use Rattle.frames.specs.declared.stream.Stream.{Stream}
 use Rattle.frames.specs.Hex.{toHex}
 use Rattle.frames.specs.Lines.{newline, lineCall, said, saidTo, lineText, some, answerTo, stateAfter}
-use Rattle.frames.specs.Stream.{longestLine, longestAnswer, heldOf, FedSoFar, waits, answering, pastByte, ended, fed, heldIn, fedBy, Feeds}
+use Rattle.frames.specs.Stream.{longestLine, longestAnswer, heldOf, FedSoFar, waits, answering, pastByte, ended, fed, heldIn, fedBy, Feeds, heldMost}
 use Rattle.frames.proofs.Digits.{length-toHex}
 use Rattle.frames.proofs.Refused.{long-line}
 use Rattle.frames.proofs.Sizes.{said-fits}

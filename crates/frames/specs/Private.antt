@@ -17,11 +17,11 @@ use Rattle.frames.specs.Image.{imageOf, stateAt, queueAt, lengthByte}
 use Rattle.records.specs.declared.band.QoSClass.{QoSClass}
 use Rattle.records.specs.Lists.{every, count}
 use Rattle.frames.specs.declared.stream.Fed.{Fed}
-use Rattle.frames.specs.declared.stream.Stream.{Stream, heldMost}
+use Rattle.frames.specs.declared.stream.Stream.{Stream}
 use Rattle.frames.specs.Bytes.{Puts}
 use Rattle.frames.specs.Lines.{lineText}
 use Rattle.frames.specs.ReadWrite.{imageStatus}
-use Rattle.frames.specs.Stream.{heldOf, heldIn, ValidStream}
+use Rattle.frames.specs.Stream.{heldOf, heldIn, ValidStream, heldMost}
 
 -- ---- writing an image
 
