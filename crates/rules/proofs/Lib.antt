@@ -28,5 +28,6 @@ pub mod Moves
 pub mod Effects
 mod Lists
 mod Parts
+pub mod Ways
 mod Course
 mod Turns
