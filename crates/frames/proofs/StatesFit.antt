@@ -1,8 +1,7 @@
 -- Document 01, "Task record, queues, holders": a call whose numbers fit keeps a state's numbers in their fields, so that of a state that has an image it
--- makes one that has an image. Acceptance bounds all numbers of a state but those that calls give and the microseconds; for these the rules are
--- followed once. Then: the numbers of new fit, those of an accepted image, and those of a call that is read from a frame. Assumes nothing.
+-- makes one that has an image. Acceptance bounds all numbers of a state but those that calls give and the microseconds; for these it goes by cases on
+-- the ways out of a call. Then: the numbers of new fit, those of an accepted image, and those of a call that is read from a frame. Assumes nothing.
 use mathlib.Core.Path.{_≡_, refl, sym, subst}
-use mathlib.Core.Bool.{not}
 use mathlib.Core.List.{List, [], _∷_}
 use mathlib.Core.Logic.{⊎-elim}
 use Prim.Native.Nat.{ℕ, _<_, _^_}
@@ -13,10 +12,9 @@ use Rattle.records.specs.declared.band.BandOption.{BandOption}
 use Rattle.records.specs.declared.band.BandOption.the-variants as band
 use Rattle.records.specs.declared.band.QoSClass.{QoSClass}
 use Rattle.records.specs.declared.band.QoSClass.the-variants.{UserInteractive, RealTimeIO, Background}
-use Rattle.records.specs.declared.ids.SlotOption.{SlotOption}
+use Rattle.records.specs.declared.ids.Slot.{Slot}
 use Rattle.records.specs.declared.ids.SlotOption.the-variants as slot
-use Rattle.records.specs.declared.state.ThreadState.{ThreadState}
-use Rattle.records.specs.declared.state.ThreadState.the-variants.{Ready, Running, Blocked, Terminated}
+use Rattle.records.specs.declared.state.ThreadState.the-variants.{Ready, Running}
 use Rattle.records.specs.declared.task.TaskControlBlock.{TaskControlBlock}
 use Rattle.records.specs.Band.{bandCode, codedBand, slice}
 use Rattle.records.specs.Lists.{Each}
@@ -29,20 +27,20 @@ use Rattle.records.proofs.States.{stateCode-small}
 use Rattle.queue.specs.Entries.{full}
 use Rattle.rules.specs.declared.answer.PickOption.{PickOption}
 use Rattle.rules.specs.declared.answer.PickOption.the-variants as pick
-use Rattle.rules.specs.declared.answer.Status.{Status}
-use Rattle.rules.specs.declared.answer.Status.the-variants.{Done, Refused}
 use Rattle.rules.specs.declared.call.Call.{Call}
-use Rattle.rules.specs.declared.call.Call.the-variants.{Create, Affinity, Terminate, Block, Wake, Enqueue, Schedule, Tick, Yield, Handoff, Plan, CanRunOnCore, TaskIndexForTid, Task, CurrentTaskOnCpu, SystemTicksUs, Holder}
 use Rattle.rules.specs.Accepted.{Accepted}
-use Rattle.rules.specs.Outcome.{Outcome, Chosen, goOn}
+use Rattle.rules.specs.Outcome.{Outcome, Chosen}
 use Rattle.rules.specs.Paper.{flagNumber}
-use Rattle.rules.specs.Picking.{choice, afterPick, ruleP, schedule}
-use Rattle.rules.specs.State.{State, newState, bandOrder, task, queue, holderOf, withTask}
+use Rattle.rules.specs.Picking.{choice, afterPick, ruleP}
+use Rattle.rules.specs.State.{State, newState, bandOrder, task, queue, withTask}
 use Rattle.rules.specs.Step.{step}
-use Rattle.rules.specs.Ticking.{gain, cleared, sliceOver, charged, requeued, tickHolder, ticked, tick, yieldHolder, yield, handoffIn, handoffHolder, handoff, planned}
-use Rattle.rules.specs.Waking.{freeSlot, create, affinity, terminate, missing, block, enqueue, isHeld, wake}
+use Rattle.rules.specs.Ticking.{staysHolder, gain, charged, requeued}
+use Rattle.rules.specs.Waking.{freeSlot, missing, enqueue}
 use Rattle.rules.proofs.Calls.{new-accepted, call-accepted}
 use Rattle.rules.proofs.Invariant.{Good, empty-good, everywhere, accepted-invariant}
+use Rattle.rules.specs.declared.answer.Value.{Value}
+use Rattle.rules.specs.Took.{Reach}
+use Rattle.rules.proofs.Ways.{Deed, by-create, by-affinity, by-terminate, by-block, by-wake, by-queueing, Timed, at-once, later, Approach, straight, clearing, slice-over, yielding, Way, refuses, tells, does, keeps, comes, way}
 use Rattle.frames.specs.declared.decode.CallOption.{CallOption}
 use Rattle.frames.specs.declared.decode.CallOption.the-variants.{None, Some}
 use Rattle.frames.specs.AcceptedImage.{AcceptedImage}
@@ -112,110 +110,74 @@ put s i t new b = (stored-read Given (s .tasks) i t emptyRecord new (b .0), b .1
 mask-small : (mask : ℕ) → mask < 256 ^ 8 → storedMask mask < 256 ^ 8
 mask-small mask small = by-if (λ (m : ℕ). m < 256 ^ 8) (eqb mask 0) (λ _. omega arith) (λ _. small)
 
-abbrev Ends : Outcome → Type 0
-Ends o = Bounded (o .state)
+-- no record is given other numbers, but by create and affinity
+P-bounded : (core : ℕ) (s : State) → Bounded s → Bounded (ruleP core s .state)
+unfolding ruleP
+P-bounded core s b = by-if Ends (leb 64 core) (λ _. b) (λ _. after (choice s core bandOrder))
+  where
+    Ends : Chosen → Type 0
+    Ends c = Bounded (c .state)
 
-abbrev Chooses : Chosen → Type 0
-Chooses c = Bounded (c .state)
+    after : (p : PickOption) → Ends (afterPick s core p)
+    after pick.None = b
+    after (pick.Some p) = put s (p .slot .0) (picked (task s (p .slot .0))) (b .0 (p .slot .0)) b
 
-module _ (s : State) (b : Bounded s) where
-  P-bounded : (core : ℕ) → Chooses (ruleP core s)
-  unfolding ruleP
-  P-bounded core = by-if Chooses (leb 64 core) (λ _. b) (λ _. after (choice s core bandOrder))
-    where
-      after : (p : PickOption) → Chooses (afterPick s core p)
-      after pick.None = b
-      after (pick.Some p) = put s (p .slot .0) (picked (task s (p .slot .0))) (b .0 (p .slot .0)) b
+consumed-bounded : (i n : ℕ) (s : State) → Bounded s → Bounded (withTask s i (withConsumed (task s i) n))
+consumed-bounded i n s b = put s i (withConsumed (task s i) n) (b .0 i) b
 
-  block-bounded : (i : ℕ) → Ends (block i s)
-  unfolding block
-  block-bounded i =
-      by-if Ends (missing s i) (λ _. b) (λ _.
-      by-if Ends (isState (task s i .state) Blocked) (λ _. b) (λ _.
-      put s i (blocked (task s i)) (b .0 i) b))
+-- the microseconds are a sum modulo 2 ^ 64
+gained-bounded : (elapsed : ℕ) (s : State) → Bounded s → Bounded (gain elapsed s)
+gained-bounded elapsed s b = (b .0, omega arith)
 
-  enqueue-bounded : (i : ℕ) → Ends (enqueue i s)
-  unfolding enqueue
-  enqueue-bounded i =
-      by-if Ends (missing s i) (λ _. b) (λ _.
-      by-if Ends (isState (task s i .state) Ready) (λ _. b) (λ _.
-      by-if Ends (full (queue s (task s i .qos))) (λ _. b) (λ _.
-      put s i (withState (task s i) Ready) (b .0 i) b)))
-
-  wake-bounded : (i : ℕ) → Ends (wake i s)
-  unfolding wake
-  wake-bounded i =
-      by-if Ends (missing s i) (λ _. b) (λ _.
-      by-if Ends (not (isState (task s i .state) Blocked)) (λ _. b) (λ _.
-      by-if Ends (isHeld s i) (λ _. put s i (withState (task s i) Running) (b .0 i) b) (λ _.
-      enqueue-bounded i)))
-
-  -- a holder is charged, or its consumed time becomes 0
-  consumed-bounded : (i n : ℕ) → Bounded (withTask s i (withConsumed (task s i) n))
-  consumed-bounded i n = put s i (withConsumed (task s i) n) (b .0 i) b
-
--- a call that goes on after an outcome
-on-bounded : (st : Status) (o : Outcome) (next : State → Outcome) → Ends o → ((t : State) → Bounded t → Ends (next t)) → Ends (goOn st o next)
-on-bounded Done o next so then = then (o .state) so
-on-bounded (Refused e) o next so then = so
-
-module _ (s : State) (b : Bounded s) (core : ℕ) where
-  tick-bounded : (h : SlotOption) (elapsed : ℕ) → Chooses (tickHolder h core elapsed s)
-  tick-bounded slot.None elapsed = P-bounded s b core
-  tick-bounded (slot.Some h) elapsed =
-      let emptied : State = withTask s (h .0) (withConsumed (task s (h .0)) 0) in
-      by-if Chooses (isState (task s (h .0) .state) Blocked) (λ _. P-bounded (cleared core s) b core) (λ _.
-      by-if Chooses (sliceOver (h .0) elapsed core s)
-      (λ _. P-bounded (requeued (h .0) s) (enqueue-bounded emptied (consumed-bounded s b (h .0) 0) (h .0)) core)
-      (λ _. consumed-bounded s b (h .0) (charged (h .0) elapsed s)))
-
-  yield-bounded : (h : SlotOption) → Ends (yieldHolder h core s)
-  yield-bounded slot.None = P-bounded s b core
-  yield-bounded (slot.Some h) =
-      by-if Ends (not (isState (task s (h .0) .state) Running)) (λ _. b) (λ _.
-      on-bounded (enqueue (h .0) s .answer .status) (enqueue (h .0) s) _ (enqueue-bounded s b (h .0)) (λ t c. P-bounded (cleared core t) c core))
-
-  handoff-bounded : (h : SlotOption) → Ends (handoffHolder h core s)
-  handoff-bounded slot.None = b
-  handoff-bounded (slot.Some h) = by-state (task s (h .0) .state)
-    where
-      by-state : (st : ThreadState) → Ends (handoffIn st h core s)
-      by-state Ready = b
-      by-state Running = b
-      by-state Blocked = P-bounded (cleared core s) b core
-      by-state Terminated = b
+requeued-bounded : (i : ℕ) (s : State) → Bounded s → Bounded (requeued i s)
+unfolding enqueue
+requeued-bounded i s b =
+    let t : State = withTask s i (withConsumed (task s i) 0) in
+    let Ends : Outcome → Type 0 = λ (o : Outcome). Bounded (o .state) in
+    let c : Bounded t = consumed-bounded i 0 s b in
+    by-if Ends (missing t i) (λ _. c) (λ _.
+    by-if Ends (isState (task t i .state) Ready) (λ _. c) (λ _.
+    by-if Ends (full (queue t (task t i .qos))) (λ _. c) (λ _. put t i (withState (task t i) Ready) (c .0 i) c)))
 
 module _ (s : State) (b : Bounded s) where
-  -- the tick, in the tick call and in the plan call: the microseconds are a sum modulo 2 ^ 64
-  ticked-bounded : (core elapsed : ℕ) → Chooses (ticked core elapsed s)
-  unfolding ticked
-  ticked-bounded core elapsed =
-      by-if Chooses (leb 64 core) (λ _. b) (λ _. tick-bounded (gain elapsed s) (b .0, omega arith) core (holderOf s core) elapsed)
-
-  pub call-bounded : (call : Call) → FitsCall call → Ends (step call s)
-  unfolding create affinity terminate schedule tick yield handoff planned Fit
-  call-bounded (Create tid band context cr3 rsp0) fit =
-      by-if Ends (leb 64 (freeSlot s)) (λ _. b) (λ _.
-      put s (freeSlot s) (created tid band context cr3 rsp0) (fit .0, (fit .1, (fit .2, (fit .3, (omega arith, tt))))) b)
-  call-bounded (Affinity i mask) fit =
+  deed-bounded : {call : Call} {v : Value} {t : State} → Deed s call v t → FitsCall call → Bounded t
+  unfolding Fit
+  deed-bounded (by-create tid band context cr3 rsp0 low) fit =
+      put s (freeSlot s) (created tid band context cr3 rsp0) (fit .0, (fit .1, (fit .2, (fit .3, (omega arith, tt))))) b
+  deed-bounded (by-affinity i mask low) fit =
       let old = b .0 (i .0) in
-      by-if Ends (leb 64 (i .0)) (λ _. b) (λ _.
-      put s (i .0) (withMask (task s (i .0)) (storedMask mask)) (old .0, (old .1 .0, (old .1 .1 .0, (old .1 .1 .1 .0, (mask-small mask fit, tt))))) b)
-  call-bounded (Terminate i) fit = by-if Ends (leb 64 (i .0)) (λ _. b) (λ _. put s (i .0) (terminated (task s (i .0))) (b .0 (i .0)) b)
-  call-bounded (Block i) fit = block-bounded s b (i .0)
-  call-bounded (Wake i) fit = wake-bounded s b (i .0)
-  call-bounded (Enqueue i) fit = enqueue-bounded s b (i .0)
-  call-bounded (Schedule core) fit = P-bounded s b core
-  call-bounded (Tick core elapsed) fit = ticked-bounded core elapsed
-  call-bounded (Yield core) fit = by-if Ends (leb 64 core) (λ _. b) (λ _. yield-bounded s b core (holderOf s core))
-  call-bounded (Handoff core) fit = by-if Ends (leb 64 core) (λ _. b) (λ _. handoff-bounded s b core (holderOf s core))
-  call-bounded (Plan core elapsed) fit = by-if Ends (leb 64 core) (λ _. b) (λ _. ticked-bounded core elapsed)
-  call-bounded (CanRunOnCore i core) fit = b
-  call-bounded (TaskIndexForTid tid) fit = b
-  call-bounded (Task i) fit = b
-  call-bounded (CurrentTaskOnCpu core) fit = b
-  call-bounded SystemTicksUs fit = b
-  call-bounded (Holder i) fit = b
+      put s (i .0) (withMask (task s (i .0)) (storedMask mask)) (old .0, (old .1 .0, (old .1 .1 .0, (old .1 .1 .1 .0, (mask-small mask fit, tt))))) b
+  deed-bounded (by-terminate i low) fit = put s (i .0) (terminated (task s (i .0))) (b .0 (i .0)) b
+  deed-bounded (by-block i here) fit = put s (i .0) (blocked (task s (i .0))) (b .0 (i .0)) b
+  deed-bounded (by-wake i here was) fit = put s (i .0) (withState (task s (i .0)) Running) (b .0 (i .0)) b
+  deed-bounded (by-queueing i named here idle) fit = put s i (withState (task s i) Ready) (b .0 i) b
+
+  timed-bounded : {u : State} → Timed s u → Bounded u
+  timed-bounded at-once = b
+  timed-bounded (later elapsed) = gained-bounded elapsed s b
+
+  approach-bounded : {call : Call} {c : ℕ} {t u : State} → Approach s call c t u → Bounded t
+  approach-bounded (straight gone) = timed-bounded gone
+  approach-bounded (clearing gone) = timed-bounded gone
+  approach-bounded (slice-over elapsed h is named) = requeued-bounded (h .0) (gain elapsed s) (gained-bounded elapsed s b)
+  approach-bounded (yielding h is named idle) = put s (h .0) (withState (task s (h .0)) Ready) (b .0 (h .0)) b
+
+  -- a holder that is charged and stays, and P
+  pub kept-bounded : (h : Slot) (elapsed : ℕ) → Bounded (staysHolder h elapsed (gain elapsed s) .state)
+  kept-bounded h elapsed = consumed-bounded (h .0) (charged (h .0) elapsed s) (gain elapsed s) (gained-bounded elapsed s b)
+
+  pub came-bounded : {call : Call} {c : ℕ} {t u : State} → Approach s call c t u → Bounded (ruleP c t .state)
+  came-bounded {c = c} {t} by = P-bounded c t (approach-bounded by)
+
+  way-bounded : {call : Call} {o : Outcome} {r : Reach} → Way s call o r → FitsCall call → Bounded (o .state)
+  way-bounded (refuses e why) fit = b
+  way-bounded (tells v of) fit = b
+  way-bounded (does v t deed) fit = deed-bounded deed fit
+  way-bounded (keeps how c elapsed h is named on) fit = kept-bounded h elapsed
+  way-bounded (comes how previous c t u low on-it is by) fit = came-bounded by
+
+  pub call-bounded : (call : Call) → FitsCall call → Bounded (step call s .state)
+  call-bounded call = way-bounded (way call s)
 
 -- a call whose numbers fit leaves a state whose numbers fit
 pub kept-fits : (call : Call) (s : State) → Accepted s → FitsCall call → FitsImage s → FitsImage (step call s .state)
