@@ -63,7 +63,8 @@ unfolding anyOf
 earlier-is UserInteractive s c = refl
 earlier-is RealTimeIO s c = or-false (anyOf (permitted s c) (queue s UserInteractive)) ∙ any-first (permitted s c) (queue s UserInteractive)
 earlier-is Background s c = λ i.
-    any-first (permitted s c) (queue s UserInteractive) i || (or-false (anyOf (permitted s c) (queue s RealTimeIO)) ∙ any-first (permitted s c) (queue s RealTimeIO)) i
+    any-first (permitted s c) (queue s UserInteractive) i
+    || (or-false (anyOf (permitted s c) (queue s RealTimeIO)) ∙ any-first (permitted s c) (queue s RealTimeIO)) i
 
 pub switches-is : (h elapsed c : ℕ) (s : State) → switches h elapsed c s ≡ sliceOver h elapsed c s
 switches-is h elapsed c s = ap (λ (b : Bool). leb (task s h .«slice_budget_us») (charged h elapsed s) || b) (earlier-is (task s h .qos) s c)
@@ -72,7 +73,9 @@ switches-is h elapsed c s = ap (λ (b : Bool). leb (task s h .«slice_budget_us�
 
 module _ (s : State) (k : Invariant s) where
   free-is : freeSlot s < 64 → task s (freeSlot s) .«in_use» ≡ false
-  free-is low = not-true (task s (freeSlot s) .«in_use») (firstPlace-passes (λ (t : TaskControlBlock). not (t .«in_use»)) (s .tasks) emptyRecord (omega (arith, k .slots)))
+  free-is low =
+      not-true (task s (freeSlot s) .«in_use»)
+      (firstPlace-passes (λ (t : TaskControlBlock). not (t .«in_use»)) (s .tasks) emptyRecord (omega (arith, k .slots)))
 
   -- terminate lets go of the slot on every core, and leaves the other holders
   holder-left : (i c : ℕ) → holder (outOfHolders i s) c ≡ released i (holder s c)
@@ -82,7 +85,8 @@ module _ (s : State) (k : Invariant s) where
 
   held-nowhere : (i : ℕ) → i < 64 → (c : ℕ) → holder (outOfHolders i s) c ≡ i → ⊥
   held-nowhere i low c is =
-      split (λ (b : Bool). cond b noneByte (holder s c) ≡ i → ⊥) (eqb (holder s c) i) (λ _ e. omega arith) (λ other. eqb-false (holder s c) i other) (sym (holder-left i c) ∙ is)
+      split (λ (b : Bool). cond b noneByte (holder s c) ≡ i → ⊥) (eqb (holder s c) i) (λ _ e. omega arith)
+      (λ other. eqb-false (holder s c) i other) (sym (holder-left i c) ∙ is)
 
   -- a core's holder, where there is one, may be held
   not-none : (c : ℕ) → (holder s c ≡ noneByte) ⊎ MayHold (task s (holder s c)) → eqb (holder s c) noneByte ≡ false → MayHold (task s (holder s c))
@@ -93,7 +97,8 @@ module _ (s : State) (k : Invariant s) where
   holder-is c h =
       split (λ (b : Bool). cond b slot.None (slot.Some (record { 0 = holder s c })) ≡ slot.Some h → MayHold (task s (h .0))) (eqb (holder s c) noneByte)
       (λ _ e. let no : _≡_ {A = ℕ} 0 1 = cc in absurd (omega arith))
-      (λ some e. let same : _≡_ {A = Slot} (record { 0 = holder s c }) h = cc in subst (λ (j : Slot). MayHold (task s (j .0))) same (not-none c (k .held c) some))
+      (λ some e. let same : _≡_ {A = Slot} (record { 0 = holder s c }) h = cc in
+      subst (λ (j : Slot). MayHold (task s (j .0))) same (not-none c (k .held c) some))
 
   -- an enqueue of a slot in use that is not Ready is not refused
   pub enqueue-done : (i : ℕ) → i < 64 → task s i .«in_use» ≡ true → isState (task s i .state) Ready ≡ false →

@@ -85,7 +85,8 @@ in-table s whole slot filled =
 
 pub ready-in-table : (s : State) → length (s .tasks) ≡ 64 → (slot : ℕ) → task s slot .state ≡ Ready → slot < 64
 ready-in-table s whole slot ready =
-    in-table s whole slot (λ e. let never : Ready ≡ Terminated = sym ready ∙ ap (λ (t : TaskControlBlock). t .state) e in let no : _≡_ {A = ℕ} 0 1 = cc in absurd (omega arith))
+    in-table s whole slot
+    (λ e. let never : Ready ≡ Terminated = sym ready ∙ ap (λ (t : TaskControlBlock). t .state) e in let no : _≡_ {A = ℕ} 0 1 = cc in absurd (omega arith))
 
 pub used-in-table : (s : State) → length (s .tasks) ≡ 64 → (slot : ℕ) → task s slot .«in_use» ≡ true → slot < 64
 used-in-table s whole slot used =
@@ -163,11 +164,26 @@ module _ (s : State) (a : Accepted s) where
 
   stands-once : (band : QoSClass) (slot : ℕ) → ReadyOf band (task s slot) → count slot (queue s band) ≡ 1
   stands-once UserInteractive slot r =
-      omega (arith, somewhere UserInteractive slot r, apart UserInteractive RealTimeIO slot r (λ e. omega arith), apart UserInteractive Background slot r (λ e. omega arith))
+      omega (
+        arith,
+        somewhere UserInteractive slot r,
+        apart UserInteractive RealTimeIO slot r (λ e. omega arith),
+        apart UserInteractive Background slot r (λ e. omega arith),
+      )
   stands-once RealTimeIO slot r =
-      omega (arith, somewhere RealTimeIO slot r, apart RealTimeIO UserInteractive slot r (λ e. omega arith), apart RealTimeIO Background slot r (λ e. omega arith))
+      omega (
+        arith,
+        somewhere RealTimeIO slot r,
+        apart RealTimeIO UserInteractive slot r (λ e. omega arith),
+        apart RealTimeIO Background slot r (λ e. omega arith),
+      )
   stands-once Background slot r =
-      omega (arith, somewhere Background slot r, apart Background UserInteractive slot r (λ e. omega arith), apart Background RealTimeIO slot r (λ e. omega arith))
+      omega (
+        arith,
+        somewhere Background slot r,
+        apart Background UserInteractive slot r (λ e. omega arith),
+        apart Background RealTimeIO slot r (λ e. omega arith),
+      )
 
 pub accepted-invariant : (s : State) → Accepted s → Invariant s
 accepted-invariant s a = record {

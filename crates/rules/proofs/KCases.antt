@@ -102,7 +102,8 @@ cases =
     } ∷
     -- K3 "mask 0 on a free slot: all ones"; the slot was given mask 6 before. Mistake: a task that no core may run.
     record {
-      got = maskOf (Affinity (slot 9) 6 ∷ []) 9 ∷ answer (Affinity (slot 9) 6 ∷ []) (Affinity (slot 9) 0) ∷ maskOf (Affinity (slot 9) 6 ∷ Affinity (slot 9) 0 ∷ []) 9 ∷ [];
+      got = maskOf (Affinity (slot 9) 6 ∷ []) 9 ∷ answer (Affinity (slot 9) 6 ∷ []) (Affinity (slot 9) 0) ∷
+          maskOf (Affinity (slot 9) 6 ∷ Affinity (slot 9) 0 ∷ []) 9 ∷ [];
       want = (6 ∷ []) ∷ (0 ∷ 255 ∷ 255 ∷ []) ∷ (18446744073709551615 ∷ []) ∷ [];
     } ∷
     -- K4 "queue 0, 1, 2, 3, slots 0 and 1 for core 0 only: core 1 picks 2, leaving 3, 0, 1 (mistake: 0, 1, 3)"
@@ -130,7 +131,8 @@ cases =
     record {
       got =
           stateOf k8 0 ∷ answer k8 (Wake (slot 0)) ∷ heldBy (k8 ++ Wake (slot 0) ∷ []) 5 ∷ stateOf (k8 ++ Wake (slot 0) ∷ []) 0 ∷
-          waiting (k8 ++ Wake (slot 0) ∷ []) UserInteractive ∷ waiting (k8 ++ Wake (slot 0) ∷ []) RealTimeIO ∷ waiting (k8 ++ Wake (slot 0) ∷ []) Background ∷ [];
+          waiting (k8 ++ Wake (slot 0) ∷ []) UserInteractive ∷ waiting (k8 ++ Wake (slot 0) ∷ []) RealTimeIO ∷
+          waiting (k8 ++ Wake (slot 0) ∷ []) Background ∷ [];
       want = (2 ∷ []) ∷ (0 ∷ 255 ∷ 255 ∷ []) ∷ (0 ∷ []) ∷ (1 ∷ []) ∷ [] ∷ [] ∷ [] ∷ [];
     } ∷
     -- K9 "tick on core 64: microseconds unmoved (mistake: counted)"

@@ -8,10 +8,12 @@
 --   OutOfTable  slots and cores of 64 and above, in queries
 --   Elsewhere   which records a call leaves as they were
 --
--- and what any crate may use: Says pairs each test with the fact that it tests, Invariant is acceptance as proofs carry it, Moves are the changes
--- that calls are made of, and Effects what each call does.
+-- What these, and laws about all calls in the crates above, go by cases on: Ways, the ways out of a call, with what holds on each.
 --
--- How these are shown: Lists and Parts are about lists and stores, Course is every call followed once, Turns one call as X sees it.
+-- What any crate may use: Says pairs each test with the fact that it tests, Invariant is acceptance as proofs carry it, Moves are the changes that
+-- calls are made of, and Effects what each call does.
+--
+-- How the rest is shown: Lists and Parts are about lists and stores, Course is every call in an accepted state, Turns one call as X sees it.
 pub mod KCases
 pub mod Accepts
 pub mod Calls

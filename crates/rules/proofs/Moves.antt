@@ -95,7 +95,8 @@ move s k i r q c =
         slots = length-set (s .tasks) i r ∙ k .slots;
         cores = k .cores;
         good = each-set (λ (j : ℕ) (t : TaskControlBlock). Good t) (s .tasks) i r emptyRecord low (c .good) (λ j _. k .good j);
-        queued = λ b. each-set (λ (j : ℕ) (t : TaskControlBlock). count j (ofBand q b) ≡ due b t) (s .tasks) i r emptyRecord low (c .own b) (λ j other. c .rest b j other ∙ k .queued b j);
+        queued = λ b. each-set (λ (j : ℕ) (t : TaskControlBlock). count j (ofBand q b) ≡ due b t)
+            (s .tasks) i r emptyRecord low (c .own b) (λ j other. c .rest b j other ∙ k .queued b j);
         held = λ core. held-still low core (k .held core);
       };
       undisturbed = λ x sx ready. record {
@@ -155,7 +156,8 @@ module _ (s : State) (k : Invariant s) (i : ℕ) (used : task s i .«in_use» �
 
   tail-order : (x : ℕ) (b : QoSClass) → 1 ≤ count x (queue s b) → Sublistᴰ (before x (ofBand (withTail s i) b)) (before x (queue s b))
   tail-order x =
-      each-queue (λ (b : QoSClass) (l : List ℕ). 1 ≤ count x (queue s b) → Sublistᴰ (before x l) (before x (queue s b))) (s .queues) (task s i .qos) (pushed i es)
+      each-queue (λ (b : QoSClass) (l : List ℕ). 1 ≤ count x (queue s b) → Sublistᴰ (before x l) (before x (queue s b)))
+      (s .queues) (task s i .qos) (pushed i es)
       (λ there. rw tail-is (rw (before-append x es (i ∷ []) there) (Sublistᴰ·refl (before x es))))
       (λ b _ _. Sublistᴰ·refl (before x (queue s b)))
 
@@ -183,7 +185,8 @@ module _ {safe : ℕ → Type 0} (s : State) (k : Invariant s) where
     good = record { in-use = used; mask = k .good i .mask; budget = k .good i .budget; consumed = k .good i .consumed };
     own = tail-own s k i used idle;
     rest = tail-rest s k i used idle;
-    may = λ core same. let m : MayHold (task s i) = holder-may s k core i (used-in-table s (k .slots) i used) same in record { used = m .used; budget-is = m .budget-is };
+    may = λ core same. let m : MayHold (task s i) = holder-may s k core i (used-in-table s (k .slots) i used) same in
+        record { used = m .used; budget-is = m .budget-is };
     alike = λ x _. waits-elsewhere s i idle x;
     order = λ x _ _. tail-order s k i used idle x;
   })

@@ -55,7 +55,8 @@ turn-after x s t u o c r = record {
       let w : WaitsOn x t o u = r .goes not-x in
       record {
         alike = record { state = w .alike .state ∙ c .alike .state; band = w .alike .band ∙ c .alike .band; mask = w .alike .mask ∙ c .alike .mask };
-        order = Sublistᴰ·trans (subst (λ (b : QoSClass). Sublistᴰ (othersIn b x o (before x (queue u b))) (before x (queue t b))) (c .alike .band) (w .order)) (c .order);
+        order = Sublistᴰ·trans (subst (λ (b : QoSClass). Sublistᴰ (othersIn b x o (before x (queue u b))) (before x (queue t b)))
+            (c .alike .band) (w .order)) (c .order);
       };
 }
 
@@ -65,7 +66,8 @@ module _ (s : State) (k : Invariant s) (x : ℕ) (ready : task s x .state ≡ Re
   mine = task s x .qos
 
   -- one was chosen
-  module _ (p : Pick) (is : firstPermitted s c (p .band) ≡ slot.Some (p .slot)) (earlier : (b : QoSClass) → bandCode b < bandCode (p .band) → firstPermitted s c b ≡ slot.None) where
+  module _ (p : Pick) (is : firstPermitted s c (p .band) ≡ slot.Some (p .slot))
+      (earlier : (b : QoSClass) → bandCode b < bandCode (p .band) → firstPermitted s c b ≡ slot.None) where
     abbrev i : ℕ
     i = p .slot .0
 
@@ -84,7 +86,8 @@ module _ (s : State) (k : Invariant s) (x : ℕ) (ready : task s x .state ≡ Re
     own-band : (x ≡ i → ⊥) → p .band ≡ mine → Sublistᴰ (i ∷ before x (queue t mine)) (before x (queue s mine))
     own-band other same =
         let there : 1 ≤ count x (queue s (p .band)) = subst (λ (b : QoSClass). 1 ≤ count x (queue s b)) (sym same) (in-queue s k x ready) in
-        let left : Sublistᴰ (i ∷ before x (queue t (p .band))) (before x (queue s (p .band))) = rw (ofBand-with (s .queues) (p .band) rest) (pick-order s k c p is x other may there) in
+        let left : Sublistᴰ (i ∷ before x (queue t (p .band))) (before x (queue s (p .band))) =
+        rw (ofBand-with (s .queues) (p .band) rest) (pick-order s k c p is x other may there) in
         subst (λ (b : QoSClass). Sublistᴰ (i ∷ before x (queue t b)) (before x (queue s b))) same left
 
     waits-behind : eqb i x ≡ false → WaitsOn x s (pick.Some p) t
@@ -94,13 +97,15 @@ module _ (s : State) (k : Invariant s) (x : ℕ) (ready : task s x .state ≡ Re
         record {
           alike = calm .alike;
           order = rw differs (
-              split (λ (b : Bool). Sublistᴰ (cond (b && true) (i ∷ before x (queue t mine)) (before x (queue t mine))) (before x (queue s mine))) (eqb (bandCode (p .band)) (bandCode mine))
+              split (λ (b : Bool). Sublistᴰ (cond (b && true) (i ∷ before x (queue t mine)) (before x (queue t mine))) (before x (queue s mine)))
+              (eqb (bandCode (p .band)) (bandCode mine))
               (λ same. own-band other (bandCode-one (p .band) mine (eqb-true (bandCode (p .band)) (bandCode mine) same)))
               (λ _. calm .order));
         }
 
     turn-taken : Turn x s (pick.Some p) t
-    turn-taken = record { bands = λ q e. let same : p ≡ q = cc in subst (λ (r : Pick). bandCode (r .band) ≤ bandCode mine) same not-behind; goes = waits-behind }
+    turn-taken =
+        record { bands = λ q e. let same : p ≡ q = cc in subst (λ (r : Pick). bandCode (r .band) ≤ bandCode mine) same not-behind; goes = waits-behind }
 
   turn-pick : {o : PickOption} → Choice s c o →
       Turn x s (afterPick s c o .pick) (afterPick s c o .state) × ((p : Pick) × (afterPick s c o .pick ≡ pick.Some p))
@@ -123,7 +128,8 @@ may-use x mask k c unbroken is low =
     (λ _ e. absurd (true≢false (ap (λ (b : Bool). b && true) (sym (lt-ltb c 64 low)) ∙ e)))
     (ap (breaksFor x mask) (sym is) ∙ unbroken)
 
-module _ (s : State) (k : Invariant s) (x : ℕ) (ready : task s x .state ≡ Ready) (call : Call) (unbroken : breaksFor x (task s x .«cpu_affinity») (concern call) ≡ false) where
+module _ (s : State) (k : Invariant s) (x : ℕ) (ready : task s x .state ≡ Ready) (call : Call)
+    (unbroken : breaksFor x (task s x .«cpu_affinity») (concern call) ≡ false) where
   abbrev mask : ℕ
   mask = task s x .«cpu_affinity»
 

@@ -40,7 +40,8 @@ no-calls band x entries = record { schedules = tt; bands = tt; in-order = Sublis
 others-sub : (band : QoSClass) (x : ℕ) (o : PickOption) {a b : List ℕ} → Sublistᴰ a b → Sublistᴰ (othersIn band x o a) (othersIn band x o b)
 others-sub band x pick.None h = h
 others-sub band x (pick.Some p) {a} {b} h =
-    split (λ (t : Bool). Sublistᴰ (cond t (p .slot .0 ∷ a) a) (cond t (p .slot .0 ∷ b) b)) (eqb (bandCode (p .band)) (bandCode band) && not (eqb (p .slot .0) x))
+    split (λ (t : Bool). Sublistᴰ (cond t (p .slot .0 ∷ a) a) (cond t (p .slot .0 ∷ b) b))
+    (eqb (bandCode (p .band)) (bandCode band) && not (eqb (p .slot .0) x))
     (λ _. Sublistᴰ·cons-cons refl h)
     (λ _. h)
 

@@ -78,7 +78,8 @@ pub data Tells (s : State) : Value → Type 0 where
 -- what a call on a slot does, the value that it is answered with, and the state then
 pub data Deed (s : State) : Call → Value → State → Type 0 where
   by-create : (tid : Tid) (band : QoSClass) (context cr3 rsp0 : ℕ) → freeSlot s < 64 →
-      Deed s (Create tid band context cr3 rsp0) (value.Slot (slot.Some (record { 0 = freeSlot s }))) (withTask s (freeSlot s) (created tid band context cr3 rsp0))
+      Deed s (Create tid band context cr3 rsp0) (value.Slot (slot.Some (record { 0 = freeSlot s })))
+      (withTask s (freeSlot s) (created tid band context cr3 rsp0))
   by-affinity : (i : Slot) (mask : ℕ) → i .0 < 64 →
       Deed s (Affinity i mask) value.Nothing (withTask s (i .0) (withMask (task s (i .0)) (storedMask mask)))
   by-terminate : (i : Slot) → i .0 < 64 → Deed s (Terminate i) value.Nothing (afterTerminate (i .0) s)
@@ -207,7 +208,8 @@ module _ (s : State) (call : Call) (c : ℕ) (low : c < 64) (on-it : concern cal
   yield-way (slot.Some h) is =
       let away : Reach = reaches (cleared c (enqueued (h .0) s)) c in
       let Ends : Outcome → Type 0 = λ (o : Outcome). Way s call (andThen o (λ t. answerPlan (slot.Some h) (ruleP c (cleared c t)))) away in
-      split (λ (b : Bool). Way s call (cond (not b) (refused NoSuchTask s) (yieldRunning h c s)) (cond b away unreached)) (isState (task s (h .0) .state) Running)
+      split (λ (b : Bool). Way s call (cond (not b) (refused NoSuchTask s) (yieldRunning h c s)) (cond b away unreached))
+      (isState (task s (h .0) .state) Running)
       (λ runs.
       by-if Ends (missing s (h .0)) (λ lost. refuses NoSuchTask (by-lost-holder c h is lost)) (λ here.
       by-if Ends (isState (task s (h .0) .state) Ready) (λ ready. absurd (true≢false (sym ready ∙ idle-in (task s (h .0)) Running runs refl))) (λ idle.
@@ -250,16 +252,19 @@ way (Tick c elapsed) s =
     on-core c (λ (b : Bool). Way s (Tick c elapsed) (answerSlot (cond b (noChoice s) (tickHolder h c elapsed u))) (cond b unreached (tickReach h c elapsed u)))
     (tells _ nobody) (λ low. tick-way s (Tick c elapsed) c low refl refl bySlot elapsed h refl)
 way (Yield c) s =
-    on-core c (λ (b : Bool). Way s (Yield c) (cond b (refused NoSuchTask s) (yieldHolder (holderOf s c) c s)) (cond b unreached (yieldReach (holderOf s c) c s)))
-    (no-task s) (λ low. yield-way s (Yield c) c low refl refl (holderOf s c) refl)
+    let h : SlotOption = holderOf s c in
+    on-core c (λ (b : Bool). Way s (Yield c) (cond b (refused NoSuchTask s) (yieldHolder h c s)) (cond b unreached (yieldReach h c s)))
+    (no-task s) (λ low. yield-way s (Yield c) c low refl refl h refl)
 way (Handoff c) s =
-    on-core c (λ (b : Bool). Way s (Handoff c) (cond b (refused NoSuchTask s) (handoffHolder (holderOf s c) c s)) (cond b unreached (handoffReach (holderOf s c) c s)))
-    (no-task s) (λ low. handoff-way s (Handoff c) c low refl refl (holderOf s c) refl)
+    let h : SlotOption = holderOf s c in
+    on-core c (λ (b : Bool). Way s (Handoff c) (cond b (refused NoSuchTask s) (handoffHolder h c s)) (cond b unreached (handoffReach h c s)))
+    (no-task s) (λ low. handoff-way s (Handoff c) c low refl refl h refl)
 way (Plan c elapsed) s =
     let h : SlotOption = holderOf s c in
     let u : State = gain elapsed s in
-    on-core c (λ (b : Bool). Way s (Plan c elapsed) (cond b (done (value.Plan plan.None) s) (answerPlan h (cond b (noChoice s) (tickHolder h c elapsed u)))) (cond b unreached (tickReach h c elapsed u)))
-    (tells _ no-plan) (λ low. tick-way s (Plan c elapsed) c low refl refl byPlan elapsed h refl)
+    let Ends : Bool → Outcome = λ (b : Bool). cond b (done (value.Plan plan.None) s) (answerPlan h (cond b (noChoice s) (tickHolder h c elapsed u))) in
+    on-core c (λ (b : Bool). Way s (Plan c elapsed) (Ends b) (cond b unreached (tickReach h c elapsed u))) (tells _ no-plan)
+    (λ low. tick-way s (Plan c elapsed) c low refl refl byPlan elapsed h refl)
 way (CanRunOnCore i c) s = tells _ (a-flag (canRunOnCore (i .0) c s))
 way (TaskIndexForTid tid) s = tells _ (a-slot (firstPlace (hasTid (tid .0)) (s .tasks)))
 way (Task i) s = tells _ (a-record (i .0))
