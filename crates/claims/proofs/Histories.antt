@@ -9,6 +9,7 @@ use Rattle.records.specs.declared.band.QoSClass.the-variants.{UserInteractive, 
 use Rattle.queue.specs.declared.BandQueue.{BandQueue}
 use Rattle.queue.specs.Stored.{entries, WellFormed, Holds}
 use Rattle.queue.proofs.Stored as ring
+use Rattle.rules.specs.declared.answer.Answer.{Answer}
 use Rattle.rules.specs.declared.call.Call.{Call}
 use Rattle.scheduler.specs.declared.scheduler.QoSScheduler.{QoSScheduler}
 use Rattle.scheduler.specs.declared.scheduler.Reply.{Reply}
@@ -21,7 +22,8 @@ use Rattle.rules.specs.Stretch.{Event, events, breaks, picks}
 use Rattle.rules.specs.Waiting.{Point}
 use Rattle.rules.specs.Longest.{Longest}
 use Rattle.scheduler.specs.Scheduler.{queuesOf, abs, Valid, IsNew, Meets, MeetsLent}
-use Rattle.claims.specs.History.{Made, History, MadeEither, byValue, lent, Mixed, madeOf, left, callsOf, happened, stretchIn, outcomeOf, CodePoint, CodeClaim}
+use Rattle.claims.specs.History.{Made, History, MadeEither, byValue, lent, Mixed, madeOf, left, callsOf, answersOf}
+use Rattle.claims.specs.History.{happened, stretchIn, outcomeOf, CodePoint, CodeClaim}
 use Rattle.rules.proofs.Calls.{new-accepted, call-accepted}
 use Rattle.rules.proofs.Stretches.{longest}
 use Rattle.rules.proofs.Waiting.{rules-demand3}
@@ -50,6 +52,19 @@ history-cut s (m ∷ a) b h =
     let parts : History (m .reply .state) a × History (left (m .reply .state) a) b = history-cut (m .reply .state) a b (h .1) in
     ((h .0, parts .0), parts .1)
 
+-- schedulers that hold the same state have the same replies to a call, and so the same histories
+meets-alike : {call : Call} {s t : QoSScheduler} {r : Reply} → abs s ≡ abs t → Meets call s r → Meets call t r
+meets-alike {call} same m = record {
+  valid = m .valid;
+  answer-is = m .answer-is ∙ ap (λ (u : State). step call u .answer) same;
+  state-is = m .state-is ∙ ap (λ (u : State). step call u .state) same;
+}
+
+pub history-alike : (s t : QoSScheduler) → abs s ≡ abs t → (made : List Made) → History s made → History t made
+unfolding History
+history-alike s t same [] h = tt
+history-alike s t same (a ∷ rest) h = (meets-alike same (h .0), h .1)
+
 -- calls made either way are a history, and a history's calls may have been made either way
 pub mixed-is : (s : QoSScheduler) (made : List MadeEither) → Mixed s made ≡ History s (map madeOf made)
 unfolding Mixed History madeOf
@@ -63,6 +78,16 @@ pub left-is : (s : QoSScheduler) (made : List Made) → History s made → abs (
 unfolding History left run
 left-is s [] h = refl
 left-is s (a ∷ rest) h = left-is (a .reply .state) rest (h .1) ∙ ap (run (callsOf rest)) (h .0 .state-is)
+
+-- the rules' answers to calls, one after the other
+abbrev pub answersFrom : List Call → State → List Answer
+answersFrom calls s = map (λ (e : Event). e .answer) (events calls s)
+
+pub answers-are : (s : QoSScheduler) (made : List Made) → History s made → answersOf made ≡ answersFrom (callsOf made) (abs s)
+unfolding History events
+answers-are s [] h = refl
+answers-are s (a ∷ rest) h =
+    λ i. h .0 .answer-is i ∷ (answers-are (a .reply .state) rest (h .1) ∙ ap (answersFrom (callsOf rest)) (h .0 .state-is)) i
 
 pub happened-is : (s : QoSScheduler) (made : List Made) → History s made → happened s made ≡ events (callsOf made) (abs s)
 unfolding History happened events

@@ -5,15 +5,18 @@ use mathlib.Core.List.{List, [], _∷_, _++_, map, flatten}
 use Prim.Native.Nat.{ℕ}
 use Rattle.scheduler.specs.declared.scheduler.QoSScheduler.{QoSScheduler}
 use Rattle.rules.specs.State.{State}
+use Rattle.rules.specs.Stretch.{events}
 use Rattle.frames.specs.declared.decode.CallOption.{CallOption}
 use Rattle.frames.specs.declared.decode.CallOption.the-variants.{None, Some}
 use Rattle.frames.specs.declared.stream.Stream.{Stream}
 use Rattle.frames.specs.Lines.{lineCall, said, saidTo, lineText, lines, answerTo, stateAfter, answersTo}
 use Rattle.claims.specs.Demand3.{Start, startState}
 use Rattle.frames.specs.Stream.{Begins}
+use Rattle.claims.specs.Requests.{callIn}
 use Rattle.claims.specs.TextClaim.{Feeding, Feedings, Answered, Line, byLine, TextClaim, StreamClaim}
 use Rattle.claims.proofs.Demand3.{start-as}
-use Rattle.claims.proofs.Follows.{SaysAt, Chain, asks}
+use Rattle.claims.proofs.Histories.{answersFrom}
+use Rattle.claims.proofs.Follows.{run-said, Chain, asks}
 use Rattle.claims.proofs.Feedings.{feedings-answered}
 
 -- ---- some lines, with their answers
@@ -33,14 +36,16 @@ answered-text s [] = refl
 answered-text s (line ∷ rest) = ap (λ (l : List ℕ). answerTo line s ++ l) (answered-text (stateAfter line s) rest)
 
 -- each is told what the rules say
-line-says : (line : List ℕ) (s : State) (c : CallOption) → SaysAt byLine c (record { line = line; text = lineText (said c s .bytes) }) s
+line-says : (line : List ℕ) (s : State) (c : CallOption) →
+    byLine .Told (record { line = line; text = lineText (said c s .bytes) }) s (answersFrom (callIn c) s)
+unfolding events
 line-says line s None = refl
 line-says line s (Some call) = refl
 
 answered-chain : (s : State) (asked : List (List ℕ)) → Chain byLine s (answered s asked)
 unfolding answered Chain answerTo stateAfter saidTo
 answered-chain s [] = tt
-answered-chain s (line ∷ rest) = (line-says line s (lineCall line), answered-chain (stateAfter line s) rest)
+answered-chain s (line ∷ rest) = (line-says line s (lineCall line), rw (run-said (lineCall line) s) (answered-chain (stateAfter line s) rest))
 
 -- ---- the answers to lines are a history's
 

@@ -49,9 +49,12 @@ unfoldable pub left : QoSScheduler → List Made → QoSScheduler
 left s [] = s
 left s (a ∷ rest) = left (a .reply .state) rest
 
--- its calls, without what came back
+-- its calls, without what came back, and its answers
 abbrev pub callsOf : List Made → List Call
 callsOf made = map (λ (a : Made). a .call) made
+
+abbrev pub answersOf : List Made → List Answer
+answersOf made = map (λ (a : Made). a .reply .answer) made
 
 -- its events: the answers and the states are the code's, and not the rules'
 unfoldable pub happened : QoSScheduler → List Made → List Event

@@ -14,7 +14,6 @@ use Rattle.rules.specs.Paper.{pickNumbers}
 use Rattle.scheduler.specs.Scheduler.{abs}
 use Rattle.rules.specs.State.{State}
 use Rattle.rules.specs.Step.{run}
-use Rattle.frames.specs.declared.decode.CallOption.the-variants.{None}
 use Rattle.frames.specs.declared.refusal.HostError.{HostError}
 use Rattle.frames.specs.declared.refusal.HostError.the-variants.{WrongLength, NoFrame}
 use Rattle.frames.specs.AcceptedImage.{AcceptedImage}
@@ -24,7 +23,7 @@ use Rattle.frames.specs.Frame.{frameCall}
 use Rattle.frames.specs.Host.{refusalReturned, answerRoom, Hosted, hostStep}
 use Rattle.frames.specs.Image.{imageOf, stateAt}
 use Rattle.claims.specs.Demand3.{ReadFrom}
-use Rattle.claims.specs.Requests.{Protocol, callsAmong, AskedPoint, Asks}
+use Rattle.claims.specs.Requests.{Protocol, callsAmong, callIn, RefusedOr, AskedPoint, Asks}
 
 -- one call: its frame, the answer buffer before, and what came back
 pub record HostCall : Type 0 where
@@ -55,9 +54,8 @@ pub record HasAnswer (h : HostCall) (answer : Answer) : Type 0 where
 -- 7 and 9 leave the buffer as it was
 abbrev pub byHost : Protocol HostCall
 byHost = record {
-  asked = λ h. cond (ltb (length (h .buffer)) answerRoom) None (frameCall (h .frame));
-  Refused = λ h. (h .got .returned ≡ refusalReturned (refusalTo h)) × (h .got .answer ≡ h .buffer);
-  Told = HasAnswer;
+  asked = λ h. cond (ltb (length (h .buffer)) answerRoom) [] (callIn (frameCall (h .frame)));
+  Told = λ h s. RefusedOr ((h .got .returned ≡ refusalReturned (refusalTo h)) × (h .got .answer ≡ h .buffer)) (HasAnswer h);
 }
 
 -- At a point: "the image then holds the state after the call", which the rules make from the start; it is accepted again, and stands for the state at

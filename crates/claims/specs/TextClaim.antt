@@ -10,7 +10,7 @@ use Rattle.rules.specs.State.{State}
 use Rattle.frames.specs.declared.stream.Fed.{Fed}
 use Rattle.frames.specs.declared.stream.Stream.{Stream}
 use Rattle.frames.specs.Answer.{answerBytes}
-use Rattle.claims.specs.Requests.{Protocol, Asks}
+use Rattle.claims.specs.Requests.{Protocol, callIn, RefusedOr, Asks}
 use Rattle.frames.specs.Lines.{lineCall, noFrame, lineText, lines, answersTo}
 use Rattle.frames.specs.Stream.{Feeds}
 
@@ -74,9 +74,8 @@ pub record Line : Type 0 where
 -- a line that is no frame is answered 09ffff, any other its answer's digits
 abbrev pub byLine : Protocol Line
 byLine = record {
-  asked = λ l. lineCall (l .line);
-  Refused = λ l. l .text ≡ lineText noFrame;
-  Told = λ l answer. l .text ≡ lineText (answerBytes answer);
+  asked = λ l. callIn (lineCall (l .line));
+  Told = λ l s. RefusedOr (l .text ≡ lineText noFrame) (λ answer. l .text ≡ lineText (answerBytes answer));
 }
 
 -- a text of answers to some lines, from a scheduler on
