@@ -1,8 +1,8 @@
--- Accepted images: the test that computes passes exactly the bytes that meet document 01's list of conditions; the state that an accepted image
--- stands for is accepted; and an accepted state whose numbers fit has an accepted image. Assumes nothing.
+-- Accepted images: the test that computes passes exactly the bytes that meet document 01's list of conditions, of the base as of the image; and an
+-- accepted state whose numbers fit has an accepted image. Assumes nothing.
 use mathlib.Core.Path.{_≡_, refl, sym, ap, subst, _∙_}
-use mathlib.Core.List.{List, [], _∷_, _++_}
-use mathlib.Core.Logic.{⊎-elim, Iff·trans}
+use mathlib.Core.List.{List, [], _∷_, _++_, flatten}
+use mathlib.Core.Logic.{⊎-elim, Iff·rfl, Iff·trans}
 use Prim.Native.Nat.{ℕ, zero, suc, _-_, _≤_, _<_}
 use native.Mathlib.Omega.{arith}
 use lib.Dec.{ltb}
@@ -16,54 +16,25 @@ use Rattle.records.proofs.Bands.{bandCode-small}
 use Rattle.records.proofs.States.{stateCode-small}
 use Rattle.queue.specs.Entries.{places}
 use Rattle.records.specs.Lists.{Each}
-use Rattle.rules.specs.Accepted.{Accepted}
+use Rattle.rules.specs.Accepted.{Accepted, ReadyOf}
 use Rattle.rules.specs.Paper.{recordNumbers}
 use Rattle.rules.specs.State.{State, noneByte, task, queue, holder}
 use Rattle.rules.proofs.Invariant.{ready-in-table, used-in-table, accepted-invariant}
 use Rattle.rules.proofs.Says.{Says, equal, less, at-most, same-flag, same-state, both, either, never, implies, by-place, all-of, below, each, bands, ready-of, may-hold}
-use Rattle.frames.specs.AcceptedImage.{AcceptedImage, slotFits, placeFits, bandFits, coreFits, acceptsImage}
+use Rattle.frames.specs.AcceptedImage.{AcceptedBase, AcceptedImage, slotFits, placeFits, bandFits, coreFits, acceptsBase, acceptsImage}
 use Rattle.frames.specs.Answer.{recordWidths, recordBytes}
-use Rattle.frames.specs.Bytes.{AllBytes, bytesOf, numbersAt}
+use Rattle.frames.specs.Bytes.{AllBytes, numbersAt}
 use Rattle.frames.specs.Fits.{HasImage}
-use Rattle.frames.specs.Image.{holdersPlace, recordsBytes, queueBytes, queuesBytes, imageOf, recordAt, queueAt, lengthByte, slotByte, queueIn, stateAt, FitsImage, FitsRecord}
-use Rattle.frames.proofs.Elements.{each-append, each-at}
+use Rattle.frames.specs.Image.{queueLength, baseLength, queuePlace, holdersPlace, recordsBytes, queueBytes, queuesBytes, imageParts, imageOf}
+use Rattle.frames.specs.Image.{lengthByte, slotByte, queueIn, stateAt, recordAt, queueAt, FitsImage, FitsRecord}
+use Rattle.frames.proofs.Elements.{each-append, each-flatten, each-at}
 use Rattle.frames.proofs.Numbers.{bytesOf-bytes, written-bytes}
 use Rattle.frames.proofs.Widths.{length-part, numbersAt-written}
 use Rattle.frames.proofs.Images.{flagNumber-small, length-tasks, queue-read, getD-zeros, record-at, queue-at, length-imageOf, reads-back}
 
--- ---- the test and the conditions
+-- ---- the queues of bytes that are long enough
 
--- the test passes exactly the images that are accepted
-pub accepts-image : (image : List ℕ) → Says (acceptsImage image) (AcceptedImage image)
-unfolding acceptsImage slotFits placeFits bandFits coreFits
-accepts-image image =
-    Iff·trans (both (both (both (both (both equal (all-of (λ _. less) image))
-    (below (λ _. both (both (both less less) less) (both (both (both same-flag (never equal)) (either equal equal)) less))))
-    (bands (λ band. both at-most (below (λ _. by-place (ready-of band _) equal)))))
-    (below (λ _. implies same-state equal)))
-    (below (λ _. either equal may-hold))) (
-      λ (((((length-is, bytes), slots), queues), once), holders). record {
-        length-is = length-is;
-        bytes = bytes;
-        bands = λ slot h. slots slot h .0 .0 .0;
-        states = λ slot h. slots slot h .0 .0 .1;
-        in-uses = λ slot h. slots slot h .0 .1;
-        in-use = λ slot h. slots slot h .1 .0 .0 .0;
-        masks = λ slot h. slots slot h .1 .0 .0 .1;
-        lengths = λ band. queues band .0;
-        unused = λ band place past h. queues band .1 place h .1 past;
-        entries = λ band place inside. queues band .1 place (omega (arith, queues band .0)) .0 inside;
-        once = once;
-        holders = holders;
-        budgets = λ slot h. slots slot h .1 .0 .1;
-        consumed = λ slot h. slots slot h .1 .1;
-      },
-      λ a. search (a .bands, a .states, a .in-uses, a .in-use, a .masks, a .lengths, a .unused, a .entries, a .once, a .holders, a .budgets, a .consumed) depth 10,
-    )
-
--- ---- the state that an accepted image stands for
-
--- the length byte bounds it
+-- the length byte bounds a queue that is read
 pub length-queueIn : (bytes : List ℕ) → length (queueIn bytes) ≤ lengthByte bytes
 length-queueIn bytes = rw (length-take (lengthByte bytes) (drop 1 bytes)) (omega arith)
 
@@ -76,23 +47,70 @@ getD-tail (b ∷ bytes) place = refl
 pub entry-read : (bytes : List ℕ) (place : ℕ) → place < lengthByte bytes → getD (queueIn bytes) place 0 ≡ slotByte place bytes
 entry-read bytes place h = getD-take (lengthByte bytes) (drop 1 bytes) place 0 h ∙ getD-tail bytes place
 
+-- the same for the three of a state that is read
+pub entry-is : (image : List ℕ) (band : QoSClass) (place : ℕ) → place < lengthByte (queueAt band image) →
+    getD (queue (stateAt image) band) place 0 ≡ slotByte place (queueAt band image)
+entry-is image band place h = rw (queue-read image band) (entry-read (queueAt band image) place h)
+
+module _ (image : List ℕ) (long : baseLength ≤ length image) where
+  pub entries-are : (band : QoSClass) → lengthByte (queueAt band image) ≤ 64 → length (queue (stateAt image) band) ≡ lengthByte (queueAt band image)
+  entries-are band small =
+      let room : length (queueAt band image) ≡ queueLength = length-part (queuePlace band) queueLength image (omega (arith, bandCode-small band)) in
+      ap length (queue-read image band) ∙ length-part 1 (lengthByte (queueAt band image)) (queueAt band image) (omega arith)
+
+  -- ---- the test and the conditions
+
+  -- the test passes exactly the bases that are accepted
+  pub accepts-base : Says (acceptsBase image) (AcceptedBase image)
+  unfolding acceptsBase slotFits placeFits bandFits coreFits stateAt
+  accepts-base =
+      Iff·trans (both (both (both (both (all-of (λ _. less) image)
+      (below (λ _. both (both (both less less) less) (both (both (both same-flag (never equal)) (either equal equal)) less))))
+      (bands (λ band. both at-most (below (λ _. by-place (ready-of band _) equal)))))
+      (below (λ _. implies same-state equal)))
+      (below (λ _. either equal may-hold))) (
+        λ ((((bytes, slots), queues), once), holders). record {
+          bytes = bytes;
+          bands = λ slot h. slots slot h .0 .0 .0;
+          states = λ slot h. slots slot h .0 .0 .1;
+          in-uses = λ slot h. slots slot h .0 .1;
+          lengths = λ band. queues band .0;
+          unused = λ band place past h. queues band .1 place h .1 past;
+          state = record {
+            slots = length-tasks image;
+            cores = length-part holdersPlace 64 image (omega arith);
+            in-use = λ slot h. slots slot h .1 .0 .0 .0;
+            masks = λ slot h. slots slot h .1 .0 .0 .1;
+            lengths = λ band. omega (arith, entries-are band (queues band .0), queues band .0);
+            entries = λ band place h.
+                let inside : place < lengthByte (queueAt band image) = omega (arith, entries-are band (queues band .0)) in
+                rw (entry-is image band place inside) (queues band .1 place (omega (arith, queues band .0)) .0 inside);
+            once = once;
+            holders = holders;
+            budgets = λ slot h. slots slot h .1 .0 .1;
+            consumed = λ slot h. slots slot h .1 .1;
+          };
+        },
+        λ a.
+            let s = a .state in
+            let entries : (band : QoSClass) (place : ℕ) → place < lengthByte (queueAt band image) →
+            ReadyOf band (task (stateAt image) (slotByte place (queueAt band image))) =
+            λ band place h. rw (entry-is image band place h) at (s .entries band place (omega (arith, entries-are band (a .lengths band)))) in
+            search (a .bands, a .states, a .in-uses, a .lengths, a .unused, entries, s .in-use, s .masks, s .once, s .holders, s .budgets, s .consumed) depth 10,
+      )
+
+-- the test passes exactly the images that are accepted
+pub accepts-image : (image : List ℕ) → Says (acceptsImage image) (AcceptedImage image)
+unfolding acceptsImage
+accepts-image image =
+    Iff·trans (both equal Iff·rfl) (
+      λ (long, passed). record { length-is = long; base = accepts-base image (omega arith) .0 passed },
+      λ a. (a .length-is, accepts-base image (omega (arith, a .length-is)) .1 (a .base)),
+    )
+
 -- the state that an accepted image stands for is accepted
 pub accepted-state : (image : List ℕ) → AcceptedImage image → Accepted (stateAt image)
-unfolding stateAt
-accepted-state image a = record {
-  slots = length-tasks image;
-  cores = length-part holdersPlace 64 image (omega (arith, a .length-is));
-  in-use = a .in-use;
-  masks = a .masks;
-  lengths = λ band. rw (queue-read image band) (omega (arith, length-queueIn (queueAt band image), a .lengths band));
-  entries = λ band. rw (queue-read image band) (λ place h.
-      let inside : place < lengthByte (queueAt band image) = omega (arith, length-queueIn (queueAt band image)) in
-      rw (entry-read (queueAt band image) place inside) (a .entries band place inside));
-  once = a .once;
-  holders = a .holders;
-  budgets = a .budgets;
-  consumed = a .consumed;
-}
+accepted-state image a = a .base .state
 
 -- ---- every element of the image of an accepted state is a byte
 
@@ -102,7 +120,7 @@ bytes-by-place l d h = let byte : (b : ℕ) → Says (ltb b 256) (b < 256) = λ 
 
 -- the bytes of records, and of a queue
 records-bytes : (tasks : List TaskControlBlock) → AllBytes (recordsBytes tasks)
-unfolding recordsBytes recordBytes Each
+unfolding recordsBytes flatten recordBytes Each
 records-bytes [] = tt
 records-bytes (t ∷ tasks) = each-append _ (recordBytes t) (recordsBytes tasks) (written-bytes recordWidths (recordNumbers t)) (records-bytes tasks)
 
@@ -127,15 +145,15 @@ module _ (s : State) (a : Accepted s) where
   band-bytes : (band : QoSClass) → AllBytes (queueBytes (queue s band))
   band-bytes band = queue-bytes (queue s band) (a .lengths band) (entry-small band)
 
+  queues-bytes : AllBytes (queuesBytes (s .queues))
+  unfolding queuesBytes Each
+  queues-bytes = each-flatten _ _ (band-bytes UserInteractive, (band-bytes RealTimeIO, (band-bytes Background, tt)))
+
   image-bytes : AllBytes (imageOf s)
-  unfolding imageOf queuesBytes
+  unfolding imageOf Each
   image-bytes =
-      each-append _ _ (bytesOf 8 (s .micros))
-      (each-append _ _ (s .holders)
-      (each-append _ (recordsBytes (s .tasks)) _ (records-bytes (s .tasks))
-      (each-append _ _ _ (each-append _ _ _ (band-bytes UserInteractive) (band-bytes RealTimeIO)) (band-bytes Background)))
-      (bytes-by-place (s .holders) noneByte (λ core _. holder-small core)))
-      (bytesOf-bytes 8 (s .micros))
+      let holders : AllBytes (s .holders) = bytes-by-place (s .holders) noneByte (λ core _. holder-small core) in
+      each-flatten _ (imageParts s) (records-bytes (s .tasks), (queues-bytes, (holders, (bytesOf-bytes 8 (s .micros), tt))))
 
 -- ---- the image of an accepted state is accepted
 
@@ -175,23 +193,16 @@ module _ (s : State) (a : Accepted s) (fits : FitsImage s) where
   pub image-accepted : AcceptedImage (imageOf s)
   image-accepted =
       let read : stateAt (imageOf s) ≡ s = reads-back s a fits in
-      let again : Accepted (stateAt (imageOf s)) = subst Accepted (sym read) a in
-      record {
-        length-is = length-imageOf s a;
+      let base : AcceptedBase (imageOf s) = record {
         bytes = image-bytes s a;
         bands = λ slot h. omega (arith, number-is slot h 1, bandCode-small (task s slot .qos));
         states = λ slot h. omega (arith, number-is slot h 2, stateCode-small (task s slot .state));
         in-uses = λ slot h. omega (arith, number-is slot h 9, flagNumber-small (task s slot .«in_use»));
-        in-use = again .in-use;
-        masks = again .masks;
         lengths = λ band. omega (arith, length-is band, a .lengths band);
         unused = λ band place past _. slot-is band place ∙ List·getD-eq-default (queue s band) 0 (omega (arith, length-is band));
-        entries = λ band place h. rw (read, slot-is band place) (a .entries band place (omega (arith, length-is band)));
-        once = again .once;
-        holders = again .holders;
-        budgets = again .budgets;
-        consumed = again .consumed;
-      }
+        state = subst Accepted (sym read) a;
+      } in
+      record { length-is = length-imageOf s a; base = base }
 
   -- and reads as the same state
   pub has-image : HasImage s

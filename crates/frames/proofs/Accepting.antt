@@ -9,7 +9,7 @@ use native.Mathlib.Nat.{add-zero, add-suc, add-assoc}
 use native.Mathlib.Omega.{arith}
 use borrow.Author.Tests.{not-true, not-false, lt-ltb, le-ltb, le-leb, lt-leb, eq-eqb, ne-eqb}
 use lib.Dec.{ltb, eqb}
-use lib.ListN.{length, getD, take, drop, length-take, length-drop}
+use lib.ListN.{length, getD, take, drop, length-drop}
 use lib.Seq.{getD-take, getD-drop, take-suc}
 use Rattle.records.specs.declared.band.QoSClass.{QoSClass}
 use Rattle.records.specs.declared.band.QoSClass.the-variants.{UserInteractive, RealTimeIO, Background}
@@ -24,10 +24,10 @@ use Rattle.rules.specs.State.{noneByte, bandOrder, task, queue}
 use Rattle.rules.proofs.Says.{Says, less, at-most, both, each, bands}
 use Rattle.frames.specs.Bytes.{part}
 use Rattle.frames.specs.Image.{imageLength, queuePlace, holdersPlace, recordIn, recordAt, queueAt, lengthByte, slotByte, stateAt}
-use Rattle.frames.specs.AcceptedImage.{codesFit, slotFits, placeFits, bandFits, coreFits, acceptsImage}
+use Rattle.frames.specs.AcceptedImage.{codesFit, slotFits, placeFits, bandFits, coreFits, acceptsBase, acceptsImage}
 use Rattle.frames.specs.Private.{allZero, LengthsFit}
-use Rattle.frames.proofs.Images.{task-read, task-past, queue-read, holder-byte}
-use Rattle.frames.proofs.AcceptedImages.{entry-read}
+use Rattle.frames.proofs.Images.{task-read, task-past, holder-byte}
+use Rattle.frames.proofs.AcceptedImages.{entry-is, entries-are}
 use Rattle.frames.proofs.Passing.{Passing, zero-snoc, fails, holds}
 
 -- ---- the state of an image
@@ -146,13 +146,10 @@ module _ (image : List ℕ) (band : QoSClass) {len : ℕ} (size : len ≡ length
 
   -- its entries
   pub queue-long : length image ≡ imageLength → len ≤ 64 → length (queue (stateAt image) band) ≡ len
-  queue-long whole h =
-      let q : List ℕ = queueAt band image in
-      let long : length q ≡ 65 = omega (arith, length-take 65 (drop (queuePlace band) image), length-drop (queuePlace band) image, bandCode-small band) in
-      rw (queue-read image band) (omega (arith, size, length-take (lengthByte q) (drop 1 q), length-drop 1 q))
+  queue-long whole h = entries-are image (omega (arith, whole)) band (omega (arith, h, size)) ∙ sym size
 
   pub queue-entry : (place : ℕ) {slot : ℕ} → place < len → slot ≡ slotByte place (queueAt band image) → getD (queue (stateAt image) band) place 0 ≡ slot
-  queue-entry place h e = rw (queue-read image band, e) (entry-read (queueAt band image) place (omega (arith, h, size)))
+  queue-entry place h e = entry-is image band place (omega (arith, h, size)) ∙ sym e
 
 -- ---- the whole image
 
@@ -200,7 +197,7 @@ module _ (image : List ℕ) where
 
     -- in the order in which the code asks
     accepts-is : acceptsImage image ≡ queues && (slots && once) && cores
-    unfolding acceptsImage
+    unfolding acceptsImage acceptsBase
     accepts-is = rw (eq-eqb (length image) imageLength whole, bytes-are, and-comm slots queues, and-assoc queues slots once)
 
     pub accepts-queues : {r : Bool} → r ≡ queues → not r ≡ true → false ≡ acceptsImage image

@@ -1,5 +1,5 @@
--- What holds of each element of a list (`Each`): of its parts, of two lists together, wherever the list is read, and after a store. Assumes nothing.
-use mathlib.Core.List.{List, [], _∷_, _++_}
+-- What holds of each element of a list (`Each`): of its parts, of two and of many lists together, wherever the list is read, and after a store. Assumes nothing.
+use mathlib.Core.List.{List, [], _∷_, _++_, flatten}
 use Prim.Native.Nat.{ℕ, zero, suc, _<_}
 use native.Mathlib.Omega.{arith}
 use lib.ListN.{length, getD, take, drop, set}
@@ -24,6 +24,12 @@ module _ {A : Type 0} (P : A → Type 0) where
   unfolding Each
   each-append [] m hl hm = hm
   each-append (a ∷ l) m hl hm = (hl .0, each-append l m (hl .1) hm)
+
+  -- of many
+  pub each-flatten : (ls : List (List A)) → Each (Each P) ls → Each P (flatten ls)
+  unfolding Each flatten
+  each-flatten [] h = tt
+  each-flatten (l ∷ ls) h = each-append l (flatten ls) (h .0) (each-flatten ls (h .1))
 
   -- wherever the list is read: of every place, and with the default of every number; and the other way
   pub each-at : (l : List A) (i : ℕ) (d : A) → Each P l → i < length l → P (getD l i d)

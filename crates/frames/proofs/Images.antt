@@ -3,12 +3,13 @@
 -- Assumes nothing.
 use mathlib.Core.Path.{_≡_, refl, sym, ap, subst, _∙_}
 use mathlib.Core.Bool.{Bool, true, false}
-use mathlib.Core.List.{List, [], _∷_, _++_, map, flatten, append-assoc, append-nil}
-use Prim.Native.Nat.{ℕ, zero, suc, _+_, _-_, _*_, _≤_, _<_, _^_}
+use mathlib.Core.List.{List, [], _∷_, _++_, map, flatten}
+use Prim.Native.Nat.{ℕ, zero, suc, _+_, _-_, _*_, _≤_, _<_}
+use native.Mathlib.Nat.{zero-add}
 use native.Mathlib.Omega.{arith}
 use lib.Dec.{eqb}
-use lib.ListN.{length, getD, take, drop, replicate, length-append, length-drop, take-append-drop, List·getD-eq-default}
-use lib.Seq.{take-all, take-at, drop-at, take-add, take-append-seam, drop-drop, length-take-le, getD-take, getD-drop}
+use lib.ListN.{length, getD, take, drop, replicate, length-append, length-drop, length-map, length-replicate, take-append-drop, List·getD-eq-default, List·getD-map}
+use lib.Seq.{take-all, take-take, take-append-seam, length-take-le, getD-take, getD-drop, ext-getD}
 use Rattle.records.specs.declared.band.QoSClass.{QoSClass}
 use Rattle.records.specs.declared.band.QoSClass.the-variants.{UserInteractive, RealTimeIO, Background}
 use Rattle.records.specs.declared.state.ThreadState.{ThreadState}
@@ -23,17 +24,19 @@ use Rattle.queue.specs.Entries.{places}
 use Rattle.queue.proofs.Entries.{length-places}
 use Rattle.rules.specs.Accepted.{Accepted}
 use Rattle.rules.specs.Paper.{recordNumbers, flagNumber}
-use Rattle.rules.specs.State.{State, noneByte, task, queue, holder}
+use Rattle.rules.specs.State.{State, Queues, bandOrder, noneByte, task, ofBand, queue, holder}
 use Rattle.rules.proofs.Invariant.{no-holder}
 use Rattle.scheduler.proofs.Arrays.{read-any}
-use Rattle.frames.specs.AcceptedImage.{AcceptedImage, bandByte, stateByte, inUseByte}
+use Rattle.frames.specs.AcceptedImage.{AcceptedBase, AcceptedImage, bandByte, stateByte, inUseByte}
 use Rattle.frames.specs.Answer.{recordWidths, recordBytes}
-use Rattle.frames.specs.Bytes.{AllBytes, bytesOf, bigEndian, part, numberAt, total}
-use Rattle.frames.specs.Image.{recordLength, queueLength, recordPlace, queuePlace, holdersPlace, microsPlace, imageLength}
-use Rattle.frames.specs.Image.{recordsBytes, queueBytes, queuesBytes, imageOf, orEmptyBand, bandOf, orEmptyState, stateOf, recordFrom, recordIn, recordsIn, recordAt, queueAt, lengthByte, slotByte, queueIn, stateAt, FitsImage, FitsRecord}
+use Rattle.frames.specs.Bytes.{AllBytes, bytesOf, bigEndian, part, partsAt, total}
+use Rattle.frames.specs.Image.{recordLength, queueLength, partLengths, imageLength, baseLength, partAt, recordPlace, queuesPlace, queuePlace, holdersPlace, microsPlace}
+use Rattle.frames.specs.Image.{recordsBytes, queueBytes, queuesBytes, imageParts, imageOf, orEmptyBand, bandOf, orEmptyState, stateOf, recordFrom, recordIn, recordsIn}
+use Rattle.frames.specs.Image.{lengthByte, slotByte, queueIn, queueOf, queuesIn, stateAt, recordAt, queueAt, FitsImage, FitsRecord}
+use Rattle.frames.proofs.Elements.{each-at}
 use Rattle.frames.proofs.Numbers.{length-bytesOf, bigEndian-bytesOf}
 use Rattle.frames.proofs.Sizes.{length-recordBytes}
-use Rattle.frames.proofs.Widths.{length-part, bytes-part, piecesAt, pieces-flatten, flatten-pieces, length-flatten, bytesOf-numberAt, numbersAt-written, written-numbersAt}
+use Rattle.frames.proofs.Widths.{length-part, bytes-part, part-within, part-of, flatten-parts, length-parts, length-flatten, bytesOf-numberAt, numbersAt-written, written-numbersAt}
 
 -- ---- codes
 
@@ -91,93 +94,107 @@ recordBytes-recordIn bytes h long band state in-use =
 
 -- ---- the records
 
--- 47 bytes each
+-- where each begins, and how long they are together: 47 bytes each
+record-places : (ts : List TaskControlBlock) (slot : ℕ) → slot ≤ length ts → total (take slot (map length (map recordBytes ts))) ≡ recordLength * slot
+record-places ts zero h = refl
+record-places [] (suc slot) h = absurd (omega arith)
+record-places (t ∷ ts) (suc slot) h = omega (arith, length-recordBytes t, record-places ts slot (omega arith))
+
 pub length-recordsBytes : (ts : List TaskControlBlock) → length (recordsBytes ts) ≡ recordLength * length ts
-unfolding recordsBytes
+unfolding recordsBytes flatten
 length-recordsBytes [] = refl
 length-recordsBytes (t ∷ ts) = length-append (recordBytes t) (recordsBytes ts) ∙ omega (arith, length-recordBytes t, length-recordsBytes ts)
 
--- the first, and the others behind it
-first-record : (t : TaskControlBlock) (ts : List TaskControlBlock) (rest : List ℕ) → take recordLength (recordsBytes (t ∷ ts) ++ rest) ≡ recordBytes t
-unfolding recordsBytes
-first-record t ts rest =
-    ap (take recordLength) (append-assoc (recordBytes t) (recordsBytes ts) rest) ∙ take-at (recordBytes t) _ recordLength (length-recordBytes t)
-
-other-records : (t : TaskControlBlock) (ts : List TaskControlBlock) (rest : List ℕ) → drop recordLength (recordsBytes (t ∷ ts) ++ rest) ≡ recordsBytes ts ++ rest
-unfolding recordsBytes
-other-records t ts rest =
-    ap (drop recordLength) (append-assoc (recordBytes t) (recordsBytes ts) rest) ∙ drop-at (recordBytes t) _ recordLength (length-recordBytes t)
-
--- the next slot's place is the same slot's behind the first
-recordAt-suc : (slot : ℕ) (bytes : List ℕ) → recordAt (suc slot) bytes ≡ recordAt slot (drop recordLength bytes)
-recordAt-suc slot bytes =
-    let place : recordPlace (suc slot) ≡ recordLength + recordPlace slot = omega arith in
-    ap (λ (n : ℕ). part n recordLength bytes) place ∙ ap (take recordLength) (sym (drop-drop (recordPlace slot) recordLength bytes))
-
 -- the record of a slot stands at its place
-record-in : (ts : List TaskControlBlock) (rest : List ℕ) (slot : ℕ) (d : TaskControlBlock) → slot < length ts →
-    recordAt slot (recordsBytes ts ++ rest) ≡ recordBytes (getD ts slot d)
-record-in [] rest slot d l = absurd (omega (arith, l))
-record-in (t ∷ ts) rest zero d l = first-record t ts rest
-record-in (t ∷ ts) rest (suc slot) d l =
-    recordAt-suc slot (recordsBytes (t ∷ ts) ++ rest) ∙ ap (recordAt slot) (other-records t ts rest) ∙ record-in ts rest slot d (omega (arith, l))
-
--- written, and read back
-recordsIn-recordsBytes : (ts : List TaskControlBlock) (rest : List ℕ) → Each FitsRecord ts →
-    recordsIn (length ts) (recordsBytes ts ++ rest) ≡ ts
-unfolding recordsIn Each
-recordsIn-recordsBytes [] rest fit = refl
-recordsIn-recordsBytes (t ∷ ts) rest fit =
-    let first : recordIn (take recordLength (recordsBytes (t ∷ ts) ++ rest)) ≡ t = ap recordIn (first-record t ts rest) ∙ recordIn-recordBytes t (fit .0) in
-    let others : recordsIn (length ts) (drop recordLength (recordsBytes (t ∷ ts) ++ rest)) ≡ ts =
-    ap (recordsIn (length ts)) (other-records t ts rest) ∙ recordsIn-recordsBytes ts rest (fit .1) in
-    λ i. first i ∷ others i
-
--- read, and written again
-recordsBytes-recordsIn : (n : ℕ) (bytes : List ℕ) → ((slot : ℕ) → slot < n → recordBytes (recordIn (recordAt slot bytes)) ≡ recordAt slot bytes) →
-    recordsBytes (recordsIn n bytes) ≡ take (recordLength * n) bytes
-unfolding recordsIn recordsBytes
-recordsBytes-recordsIn zero bytes same = refl
-recordsBytes-recordsIn (suc n) bytes same =
-    let long : recordLength + recordLength * n ≡ recordLength * suc n = omega arith in
-    let others : recordsBytes (recordsIn n (drop recordLength bytes)) ≡ take (recordLength * n) (drop recordLength bytes) =
-    recordsBytes-recordsIn n (drop recordLength bytes)
-    (λ slot l. subst (λ (piece : List ℕ). recordBytes (recordIn piece) ≡ piece) (recordAt-suc slot bytes) (same (suc slot) (omega (arith, l)))) in
-    (λ i. same 0 (omega arith) i ++ others i)
-    ∙ sym (take-add recordLength (recordLength * n) bytes)
-    ∙ ap (λ (k : ℕ). take k bytes) long
+record-in : (ts : List TaskControlBlock) (slot : ℕ) (d : TaskControlBlock) → slot < length ts → recordAt slot (recordsBytes ts) ≡ recordBytes (getD ts slot d)
+unfolding recordsBytes
+record-in ts slot d l =
+    let inside : slot < length (map recordBytes ts) = omega (arith, length-map ts recordBytes) in
+    let is : getD (map recordBytes ts) slot [] ≡ recordBytes (getD ts slot d) =
+    read-any (map recordBytes ts) slot [] (recordBytes d) inside ∙ List·getD-map recordBytes ts slot d in
+    part-of (map recordBytes ts) slot (recordPlace slot) inside (record-places ts slot (omega arith)) (ap length is ∙ length-recordBytes (getD ts slot d)) ∙ is
 
 -- so many are read, and each from its slot's bytes
 length-recordsIn : (n : ℕ) (bytes : List ℕ) → length (recordsIn n bytes) ≡ n
 unfolding recordsIn
-length-recordsIn zero bytes = refl
-length-recordsIn (suc n) bytes = ap suc (length-recordsIn n (drop recordLength bytes))
+length-recordsIn n bytes =
+    length-map (partsAt 0 (replicate n recordLength) bytes) recordIn ∙ length-parts 0 (replicate n recordLength) bytes ∙ length-replicate n recordLength
+
+slot-part : (at n : ℕ) (bytes : List ℕ) (slot : ℕ) → slot < n →
+    getD (partsAt at (replicate n recordLength) bytes) slot [] ≡ part (at + recordPlace slot) recordLength bytes
+slot-part at zero bytes slot l = absurd (omega arith)
+slot-part at (suc n) bytes zero l = let here : at ≡ at + recordPlace 0 = omega arith in ap (λ (k : ℕ). part k recordLength bytes) here
+slot-part at (suc n) bytes (suc slot) l =
+    let next : at + recordLength + recordPlace slot ≡ at + recordPlace (suc slot) = omega arith in
+    slot-part (at + recordLength) n bytes slot (omega arith) ∙ ap (λ (k : ℕ). part k recordLength bytes) next
+
+slot-bytes : (n : ℕ) (bytes : List ℕ) (slot : ℕ) → slot < n → getD (partsAt 0 (replicate n recordLength) bytes) slot [] ≡ recordAt slot bytes
+slot-bytes n bytes slot l = slot-part 0 n bytes slot l ∙ ap (λ (k : ℕ). part k recordLength bytes) (zero-add (recordPlace slot))
 
 getD-recordsIn : (n : ℕ) (bytes : List ℕ) (slot : ℕ) (d : TaskControlBlock) → slot < n → getD (recordsIn n bytes) slot d ≡ recordIn (recordAt slot bytes)
 unfolding recordsIn
-getD-recordsIn zero bytes slot d l = absurd (omega (arith, l))
-getD-recordsIn (suc n) bytes zero d l = refl
-getD-recordsIn (suc n) bytes (suc slot) d l = getD-recordsIn n (drop recordLength bytes) slot d (omega (arith, l)) ∙ ap recordIn (sym (recordAt-suc slot bytes))
+getD-recordsIn n bytes slot d l =
+    read-any (recordsIn n bytes) slot d (recordIn []) (omega (arith, length-recordsIn n bytes))
+    ∙ List·getD-map recordIn (partsAt 0 (replicate n recordLength) bytes) slot []
+    ∙ ap recordIn (slot-bytes n bytes slot l)
+
+-- written, and read back
+recordsIn-recordsBytes : (ts : List TaskControlBlock) → Each FitsRecord ts → recordsIn (length ts) (recordsBytes ts) ≡ ts
+recordsIn-recordsBytes ts fit =
+    let n = length ts in
+    ext-getD emptyRecord (recordsIn n (recordsBytes ts)) ts (length-recordsIn n (recordsBytes ts)) (λ slot low.
+    let l : slot < n = omega (arith, low, length-recordsIn n (recordsBytes ts)) in
+    getD-recordsIn n (recordsBytes ts) slot emptyRecord l
+    ∙ ap recordIn (record-in ts slot emptyRecord l)
+    ∙ recordIn-recordBytes (getD ts slot emptyRecord) (each-at FitsRecord ts slot emptyRecord fit l))
+
+-- read, and written again
+same-again : (parts : List (List ℕ)) → ((k : ℕ) → k < length parts → recordBytes (recordIn (getD parts k [])) ≡ getD parts k []) →
+    map recordBytes (map recordIn parts) ≡ parts
+same-again [] same = refl
+same-again (bytes ∷ parts) same = λ i. same 0 (omega arith) i ∷ same-again parts (λ k h. same (suc k) (omega arith)) i
+
+total-records : (n : ℕ) → total (replicate n recordLength) ≡ recordLength * n
+total-records zero = refl
+total-records (suc n) = omega (arith, total-records n)
+
+recordsBytes-recordsIn : (n : ℕ) (bytes : List ℕ) → ((slot : ℕ) → slot < n → recordBytes (recordIn (recordAt slot bytes)) ≡ recordAt slot bytes) →
+    recordsBytes (recordsIn n bytes) ≡ take (recordLength * n) bytes
+unfolding recordsIn recordsBytes
+recordsBytes-recordsIn n bytes same =
+    let widths = replicate n recordLength in
+    ap flatten (same-again (partsAt 0 widths bytes) (λ slot h.
+    let l : slot < n = omega (arith, h, length-parts 0 widths bytes, length-replicate n recordLength) in
+    subst (λ (piece : List ℕ). recordBytes (recordIn piece) ≡ piece) (sym (slot-bytes n bytes slot l)) (same slot l)))
+    ∙ flatten-parts 0 widths bytes
+    ∙ ap (λ (k : ℕ). take k bytes) (total-records n)
 
 -- the same for the 64 of a state that is read
 pub length-tasks : (image : List ℕ) → length (stateAt image .tasks) ≡ 64
 unfolding stateAt
-length-tasks image = length-recordsIn 64 image
+length-tasks image = length-recordsIn 64 (partAt 0 image)
 
 -- a number of 64 and above is no slot
 pub task-past : (image : List ℕ) (slot : ℕ) → 64 ≤ slot → task (stateAt image) slot ≡ emptyRecord
 task-past image slot h = List·getD-eq-default (stateAt image .tasks) emptyRecord (omega (arith, length-tasks image))
 
 -- a slot's record is read from its 47 bytes, a band's queue from its 65
+record-there : (image : List ℕ) (slot : ℕ) → slot < 64 → recordAt slot (partAt 0 image) ≡ recordAt slot image
+record-there image slot l =
+    part-within 0 queuesPlace (recordPlace slot) recordLength image (omega arith) ∙ ap (λ (k : ℕ). part k recordLength image) (zero-add (recordPlace slot))
+
 pub task-read : (image : List ℕ) (slot : ℕ) → slot < 64 → task (stateAt image) slot ≡ recordIn (recordAt slot image)
 unfolding stateAt
-task-read image slot l = getD-recordsIn 64 image slot _ l
+task-read image slot l = getD-recordsIn 64 (partAt 0 image) slot _ l ∙ ap recordIn (record-there image slot l)
+
+queue-there : (image : List ℕ) (band : QoSClass) → part (queueLength * bandCode band) queueLength (partAt 1 image) ≡ queueAt band image
+queue-there image band = part-within queuesPlace (3 * queueLength) (queueLength * bandCode band) queueLength image (omega (arith, bandCode-small band))
 
 pub queue-read : (image : List ℕ) (band : QoSClass) → queue (stateAt image) band ≡ queueIn (queueAt band image)
 unfolding stateAt
-queue-read image UserInteractive = refl
-queue-read image RealTimeIO = refl
-queue-read image Background = refl
+queue-read image UserInteractive = ap queueIn (queue-there image UserInteractive)
+queue-read image RealTimeIO = ap queueIn (queue-there image RealTimeIO)
+queue-read image Background = ap queueIn (queue-there image Background)
 
 -- a core's holder is its byte
 pub holder-byte : (image : List ℕ) (core : ℕ) → length image ≡ imageLength → core < 64 → getD image (holdersPlace + core) 0 ≡ holder (stateAt image) core
@@ -227,111 +244,131 @@ queueBytes-queueIn (n ∷ es) long small unused =
     ∙ ap (λ (l : List ℕ). n ∷ (take n es ++ l)) none
     ∙ ap (λ (l : List ℕ). n ∷ l) (take-append-drop n es)
 
--- ---- the image, piece by piece
+-- ---- the image, part by part
 
--- an image is these, one behind the other
-abbrev pieces : State → List (List ℕ)
-pieces s =
-    recordsBytes (s .tasks) ∷ queueBytes (s .queues .interactive) ∷ queueBytes (s .queues .realTime) ∷ queueBytes (s .queues .background) ∷
-    s .holders ∷ bytesOf 8 (s .micros) ∷ []
+module _ (q : Queues) (short : (band : QoSClass) → length (ofBand q band) ≤ 64) where
+  abbrev queues : List (List ℕ)
+  queues = map (λ band. queueBytes (ofBand q band)) bandOrder
 
-imageOf-pieces : (s : State) → imageOf s ≡ flatten (pieces s)
-unfolding imageOf queuesBytes flatten
-imageOf-pieces s = simp (append-assoc, append-nil)
+  band-length : (band : QoSClass) → length (queueBytes (ofBand q band)) ≡ queueLength
+  band-length band = length-queueBytes (ofBand q band) (short band)
 
--- how long they are
-abbrev widths : ℕ → List ℕ
-widths cores = 64 * recordLength ∷ queueLength ∷ queueLength ∷ queueLength ∷ cores ∷ 8 ∷ []
+  pub length-queuesBytes : length (queuesBytes q) ≡ 3 * queueLength
+  unfolding queuesBytes
+  length-queuesBytes =
+      length-flatten queues ∙ omega (arith, band-length UserInteractive, band-length RealTimeIO, band-length Background)
 
--- the records in front, and what stands behind them
-pub records-first : (s : State) → (rest : List ℕ) × (imageOf s ≡ recordsBytes (s .tasks) ++ rest)
-unfolding flatten
-records-first s = (_, imageOf-pieces s)
+  -- the queue of a band stands at its place
+  queue-in : (band : QoSClass) → part (queueLength * bandCode band) queueLength (queuesBytes q) ≡ queueBytes (ofBand q band)
+  unfolding queuesBytes
+  queue-in UserInteractive = part-of queues 0 0 (omega arith) refl (band-length UserInteractive)
+  queue-in RealTimeIO = part-of queues 1 queueLength (omega arith) (omega (arith, band-length UserInteractive)) (band-length RealTimeIO)
+  queue-in Background =
+      part-of queues 2 (2 * queueLength) (omega arith) (omega (arith, band-length UserInteractive, band-length RealTimeIO)) (band-length Background)
 
 module _ (s : State) (slots : length (s .tasks) ≡ 64) where
-  -- the 47 bytes of a slot
-  pub record-at : (slot : ℕ) → slot < 64 → recordAt slot (imageOf s) ≡ recordBytes (task s slot)
-  record-at slot l = ap (recordAt slot) (records-first s .1) ∙ record-in (s .tasks) (records-first s .0) slot _ (omega (arith, slots, l))
+  length-records : length (recordsBytes (s .tasks)) ≡ queuesPlace
+  length-records = length-recordsBytes (s .tasks) ∙ ap (λ (n : ℕ). recordLength * n) slots
 
-  -- all records
-  pub records-at : Each FitsRecord (s .tasks) → recordsIn 64 (imageOf s) ≡ s .tasks
-  records-at fit =
-      subst (λ (n : ℕ). recordsIn n (imageOf s) ≡ s .tasks) slots
-      (ap (recordsIn (length (s .tasks))) (records-first s .1) ∙ recordsIn-recordsBytes (s .tasks) (records-first s .0) fit)
+  -- the records, and the 47 bytes of a slot
+  pub records-at : partAt 0 (imageOf s) ≡ recordsBytes (s .tasks)
+  unfolding imageOf
+  records-at = part-of (imageParts s) 0 0 (omega arith) refl length-records
+
+  pub record-at : (slot : ℕ) → slot < 64 → recordAt slot (imageOf s) ≡ recordBytes (task s slot)
+  record-at slot l =
+      sym (record-there (imageOf s) slot l) ∙ ap (recordAt slot) records-at ∙ record-in (s .tasks) slot emptyRecord (omega (arith, slots, l))
 
   module _ (lengths : (band : QoSClass) → length (queue s band) ≤ 64) where
-    -- the pieces have these widths, and stand where these widths put them
-    widths-are : map length (pieces s) ≡ widths (length (s .holders))
-    widths-are =
-        let records : length (recordsBytes (s .tasks)) ≡ 64 * recordLength = length-recordsBytes (s .tasks) ∙ ap (λ (n : ℕ). recordLength * n) slots in
-        λ i. records i ∷ length-queueBytes (s .queues .interactive) (lengths UserInteractive) i ∷ length-queueBytes (s .queues .realTime) (lengths RealTimeIO) i
-        ∷ length-queueBytes (s .queues .background) (lengths Background) i ∷ length (s .holders) ∷ length-bytesOf 8 (s .micros) i ∷ []
+    -- the queues, and the 65 bytes of a band
+    pub queues-at : partAt 1 (imageOf s) ≡ queuesBytes (s .queues)
+    unfolding imageOf
+    queues-at = part-of (imageParts s) 1 queuesPlace (omega arith) (omega (arith, length-records)) (length-queuesBytes (s .queues) lengths)
 
-    pieces-at : piecesAt 0 (widths (length (s .holders))) (imageOf s) ≡ pieces s
-    pieces-at = (λ i. piecesAt 0 (sym widths-are i) (imageOf-pieces s i)) ∙ pieces-flatten [] (pieces s)
-
-    -- the 65 bytes of a band
     pub queue-at : (band : QoSClass) → queueAt band (imageOf s) ≡ queueBytes (queue s band)
-    queue-at UserInteractive = ap (λ (ls : List (List ℕ)). getD ls 1 []) pieces-at
-    queue-at RealTimeIO = ap (λ (ls : List (List ℕ)). getD ls 2 []) pieces-at
-    queue-at Background = ap (λ (ls : List (List ℕ)). getD ls 3 []) pieces-at
+    queue-at band =
+        sym (queue-there (imageOf s) band)
+        ∙ ap (part (queueLength * bandCode band) queueLength) queues-at
+        ∙ queue-in (s .queues) lengths band
 
     module _ (cores : length (s .holders) ≡ 64) where
       -- the holders, the microseconds, and the whole
-      pub holders-at : part holdersPlace 64 (imageOf s) ≡ s .holders
-      holders-at = ap (λ (n : ℕ). part holdersPlace n (imageOf s)) (sym cores) ∙ ap (λ (ls : List (List ℕ)). getD ls 4 []) pieces-at
+      pub holders-at : partAt 2 (imageOf s) ≡ s .holders
+      unfolding imageOf
+      holders-at = part-of (imageParts s) 2 holdersPlace (omega arith) (omega (arith, length-records, length-queuesBytes (s .queues) lengths)) cores
 
-      pub micros-at : part microsPlace 8 (imageOf s) ≡ bytesOf 8 (s .micros)
-      micros-at = ap (λ (n : ℕ). part (holdersPlace + n) 8 (imageOf s)) (sym cores) ∙ ap (λ (ls : List (List ℕ)). getD ls 5 []) pieces-at
+      pub micros-at : partAt 3 (imageOf s) ≡ bytesOf 8 (s .micros)
+      unfolding imageOf
+      micros-at =
+          part-of (imageParts s) 3 microsPlace (omega arith) (omega (arith, length-records, length-queuesBytes (s .queues) lengths, cores)) (length-bytesOf 8 (s .micros))
 
-      pub length-image : length (imageOf s) ≡ imageLength
-      length-image = ap length (imageOf-pieces s) ∙ length-flatten (pieces s) ∙ ap total widths-are ∙ omega (arith, cores)
-
-      pub micros-read : s .micros < 256 ^ 8 → numberAt microsPlace 8 (imageOf s) ≡ s .micros
-      micros-read fits = ap bigEndian micros-at ∙ bigEndian-bytesOf 8 (s .micros) fits
+      pub lengths-are : map length (imageParts s) ≡ partLengths
+      lengths-are = λ i. length-records i ∷ length-queuesBytes (s .queues) lengths i ∷ cores i ∷ length-bytesOf 8 (s .micros) i ∷ []
 
 -- ---- written, and read back
 
 module _ (s : State) (a : Accepted s) where
   -- "The image (added) is 3,275 bytes"
   pub length-imageOf : length (imageOf s) ≡ imageLength
-  length-imageOf = length-image s (a .slots) (a .lengths) (a .cores)
+  unfolding imageOf
+  length-imageOf = length-flatten (imageParts s) ∙ ap total (lengths-are s (a .slots) (a .lengths) (a .cores))
 
-  -- each queue is read back
-  queue-back : (band : QoSClass) → queueIn (queueAt band (imageOf s)) ≡ queue s band
-  queue-back band = ap queueIn (queue-at s (a .slots) (a .lengths) band) ∙ queueIn-queueBytes (queue s band)
+  -- the records and each queue are read back
+  records-back : Each FitsRecord (s .tasks) → recordsIn 64 (partAt 0 (imageOf s)) ≡ s .tasks
+  records-back fit =
+      ap (recordsIn 64) (records-at s (a .slots))
+      ∙ ap (λ (n : ℕ). recordsIn n (recordsBytes (s .tasks))) (sym (a .slots))
+      ∙ recordsIn-recordsBytes (s .tasks) fit
+
+  queue-back : (band : QoSClass) → queueOf band (partAt 1 (imageOf s)) ≡ queue s band
+  queue-back band =
+      ap queueIn (queue-there (imageOf s) band ∙ queue-at s (a .slots) (a .lengths) band) ∙ queueIn-queueBytes (queue s band)
 
   -- "writing then reading the image gives the same state"
   pub reads-back : FitsImage s → stateAt (imageOf s) ≡ s
   unfolding stateAt
   reads-back fits = λ i. record {
-    tasks = records-at s (a .slots) (fits .records) i;
+    tasks = records-back (fits .records) i;
     queues = record { interactive = queue-back UserInteractive i; realTime = queue-back RealTimeIO i; background = queue-back Background i };
     holders = holders-at s (a .slots) (a .lengths) (a .cores) i;
-    micros = micros-read s (a .slots) (a .lengths) (a .cores) (fits .micros) i;
+    micros = (ap bigEndian (micros-at s (a .slots) (a .lengths) (a .cores)) ∙ bigEndian-bytesOf 8 (s .micros) (fits .micros)) i;
   }
 
 -- ---- read, and written again
 
-module _ (image : List ℕ) (a : AcceptedImage image) where
-  -- each piece is written again as it was
+module _ (image : List ℕ) (long : baseLength ≤ length image) (a : AcceptedBase image) where
+  -- each part is written again as it was
   record-again : (slot : ℕ) → slot < 64 → recordBytes (recordIn (recordAt slot image)) ≡ recordAt slot image
   record-again slot l =
       recordBytes-recordIn (recordAt slot image) (bytes-part (recordPlace slot) recordLength image (a .bytes))
-      (length-part (recordPlace slot) recordLength image (omega (arith, l, a .length-is))) (a .bands slot l) (a .states slot l) (a .in-uses slot l)
+      (length-part (recordPlace slot) recordLength image (omega arith)) (a .bands slot l) (a .states slot l) (a .in-uses slot l)
 
-  queue-again : (band : QoSClass) → queueBytes (queueIn (queueAt band image)) ≡ queueAt band image
+  records-again : recordsBytes (recordsIn 64 (partAt 0 image)) ≡ partAt 0 image
+  records-again =
+      recordsBytes-recordsIn 64 (partAt 0 image)
+      (λ slot l. subst (λ (bytes : List ℕ). recordBytes (recordIn bytes) ≡ bytes) (sym (record-there image slot l)) (record-again slot l))
+      ∙ take-take queuesPlace queuesPlace image (omega arith)
+
+  queue-again : (band : QoSClass) → queueBytes (queueOf band (partAt 1 image)) ≡ part (queueLength * bandCode band) queueLength (partAt 1 image)
   queue-again band =
-      queueBytes-queueIn (queueAt band image) (length-part (queuePlace band) queueLength image (omega (arith, bandCode-small band, a .length-is)))
-      (a .lengths band) (a .unused band)
+      subst (λ (bytes : List ℕ). queueBytes (queueIn bytes) ≡ bytes) (sym (queue-there image band))
+      (queueBytes-queueIn (queueAt band image) (length-part (queuePlace band) queueLength image (omega (arith, bandCode-small band)))
+      (a .lengths band) (a .unused band))
 
-  pieces-again : pieces (stateAt image) ≡ piecesAt 0 (widths 64) image
+  queues-again : queuesBytes (queuesIn (partAt 1 image)) ≡ partAt 1 image
+  unfolding queuesBytes
+  queues-again =
+      ap flatten (λ i. queue-again UserInteractive i ∷ queue-again RealTimeIO i ∷ queue-again Background i ∷ [])
+      ∙ flatten-parts 0 (queueLength ∷ queueLength ∷ queueLength ∷ []) (partAt 1 image)
+      ∙ take-take (3 * queueLength) (3 * queueLength) (drop queuesPlace image) (omega arith)
+
+  parts-again : imageParts (stateAt image) ≡ partsAt 0 partLengths image
   unfolding stateAt
-  pieces-again = λ i.
-      recordsBytes-recordsIn 64 image record-again i ∷ queue-again UserInteractive i ∷ queue-again RealTimeIO i ∷ queue-again Background i ∷
-      part holdersPlace 64 image ∷ bytesOf-numberAt microsPlace 8 image (a .bytes) (omega (arith, a .length-is)) i ∷ []
+  parts-again = λ i.
+      records-again i ∷ queues-again i ∷ partAt 2 image ∷ bytesOf-numberAt microsPlace 8 image (a .bytes) long i ∷ []
 
-  -- "reading then writing gives the same bytes"
-  pub writes-back : imageOf (stateAt image) ≡ image
-  writes-back =
-      imageOf-pieces (stateAt image) ∙ ap flatten pieces-again ∙ flatten-pieces 0 (widths 64) image ∙ take-all imageLength image (omega (arith, a .length-is))
+-- "reading then writing gives the same bytes"
+pub writes-back : (image : List ℕ) → AcceptedImage image → imageOf (stateAt image) ≡ image
+unfolding imageOf
+writes-back image a =
+    ap flatten (parts-again image (omega (arith, a .length-is)) (a .base)) ∙ flatten-parts 0 partLengths image ∙ take-all imageLength image (omega (arith, a .length-is))

@@ -14,6 +14,10 @@ pub behind : (o : List ℕ) {o₁ o₂ : List ℕ} (at next : ℕ) (a b : List �
     → o₂ ≡ sets o at (a ++ b)
 behind o at next a b e n more = more ∙ (λ i. sets (e i) (n i) b) ∙ sym (sets-append o at a b)
 
+-- nothing behind them
+pub alone : (o : List ℕ) {o₁ : List ℕ} (at : ℕ) (a : List ℕ) → o₁ ≡ sets o at a → o₁ ≡ sets o at (a ++ [])
+alone o at a e = e ∙ ap (sets o at) (sym (append-nil a))
+
 -- a number, then what is stored behind it
 pub run-on : (o : List ℕ) {o₁ o₂ : List ℕ} (at width next : ℕ) {x y : ℕ} (rest : List ℕ) → o₁ ≡ sets o at (bytesOf width x) → x ≡ y
     → next ≡ at + width → o₂ ≡ sets o₁ next rest → o₂ ≡ sets o at (bytesOf width y ++ rest)
@@ -22,4 +26,4 @@ run-on o at width next {y = y} rest e v n =
 
 -- the last number of a run
 pub run-end : (o : List ℕ) {o₁ : List ℕ} (at width : ℕ) {x y : ℕ} → o₁ ≡ sets o at (bytesOf width x) → x ≡ y → o₁ ≡ sets o at (bytesOf width y ++ [])
-run-end o at width {y = y} e v = e ∙ (λ i. sets o at (bytesOf width (v i))) ∙ ap (sets o at) (sym (append-nil (bytesOf width y)))
+run-end o at width {y = y} e v = alone o at (bytesOf width y) (e ∙ (λ i. sets o at (bytesOf width (v i))))

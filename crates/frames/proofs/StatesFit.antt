@@ -210,9 +210,9 @@ pub image-fits : (image : List ℕ) → AcceptedImage image → FitsImage (state
 unfolding stateAt
 image-fits image a =
     let all-read : (slot : ℕ) → slot < 64 → Given (task (stateAt image) slot) = λ slot low.
-    subst Given (sym (task-read image slot low)) (read-given (recordAt slot image) (bytes-part (recordPlace slot) recordLength image (a .bytes))) in
+    subst Given (sym (task-read image slot low)) (read-given (recordAt slot image) (bytes-part (recordPlace slot) recordLength image (a .base .bytes))) in
     bounded-fits (stateAt image) (accepted-state image a)
-    (everywhere Given (stateAt image .tasks) emptyRecord 64 (length-tasks image) empty-given all-read, number-small microsPlace 8 image (a .bytes))
+    (everywhere Given (stateAt image .tasks) emptyRecord 64 (length-tasks image) empty-given all-read, number-small microsPlace 8 image (a .base .bytes))
 
 pub image-has-image : (image : List ℕ) → AcceptedImage image → HasImage (stateAt image)
 image-has-image image a = has-image (stateAt image) (accepted-state image a) (image-fits image a)

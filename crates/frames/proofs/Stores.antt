@@ -7,7 +7,7 @@ use native.Mathlib.Omega.{arith}
 use native.Mathlib.Nat.{add-zero, add-suc, suc-add, zero-add}
 use native.Mathlib.Numerals.{add-one}
 use lib.ListN.{length, getD, take, drop, set, length-set, length-append}
-use lib.Seq.{sets, sets-eq, set-comm, set-out, take-at, take-all, drop-at, drop-cons, length-sets, getD-take}
+use lib.Seq.{sets, sets-eq, set-append-left, set-comm, set-out, take-at, take-all, drop-at, drop-cons, length-sets, getD-take}
 
 -- first some, then the rest behind them
 pub sets-append : (o : List ℕ) (at : ℕ) (a b : List ℕ) → sets o at (a ++ b) ≡ sets (sets o at a) (at + length a) b
@@ -49,6 +49,13 @@ sets-behind (x ∷ front) o at a =
 pub sets-over : (front o a : List ℕ) → length front ≡ length a → sets (front ++ o) 0 a ≡ a ++ o
 sets-over front o a e =
     sets-eq a (front ++ o) 0 (omega (arith, e, length-append front o)) ∙ ap (λ (l : List ℕ). a ++ l) (drop-at front o (0 + length a) (omega (arith, e)))
+
+-- a store inside the first bytes
+pub sets-front : (front o : List ℕ) (at : ℕ) (a : List ℕ) → at + length a ≤ length front → sets (front ++ o) at a ≡ sets front at a ++ o
+sets-front front o at [] h = refl
+sets-front front o at (x ∷ a) h =
+    ap (λ (l : List ℕ). sets l (suc at) a) (set-append-left front o at x (omega arith))
+    ∙ sets-front (set front at x) o (suc at) a (omega (arith, length-set front at x))
 
 -- what has no place is not stored: as many bytes as have room make the same
 pub sets-room : (o : List ℕ) (at n : ℕ) (a : List ℕ) → length o ≤ at + n → sets o at (take n a) ≡ sets o at a

@@ -1,17 +1,18 @@
--- Bytes that stand one behind the other, each piece in its width: a list cut into pieces and put together again, and the same for the numbers that
--- the pieces stand for (`numbersAt` against `written`), both ways over any list of widths.
+-- Bytes that stand one behind the other, each part in its width: parts put together and read again, bytes cut into parts and put together again, a
+-- store inside one part; and the same round trips for the numbers that the parts stand for (`numbersAt` against `written`), over any list of widths.
 -- Assumes nothing.
 use mathlib.Core.Path.{_≡_, refl, sym, ap, subst, _∙_}
 use mathlib.Core.List.{List, [], _∷_, _++_, map, flatten, append-assoc}
-use Prim.Native.Nat.{ℕ, suc, _+_, _*_, _≤_, _<_, _^_}
-use native.Mathlib.Nat.{mul-assoc, mul-le-mul-right, pow-succ', pow-le-pow-right, lt-of-lt-of-le}
+use Prim.Native.Nat.{ℕ, zero, suc, _+_, _*_, _≤_, _<_, _^_}
+use native.Mathlib.Nat.{add-assoc, zero-add, mul-assoc, mul-le-mul-right, pow-succ', pow-le-pow-right, lt-of-lt-of-le}
 use native.Mathlib.Omega.{arith}
-use lib.ListN.{length, take, drop, length-append, length-take, length-drop}
-use lib.Seq.{take-at, drop-append-seam, take-add, drop-drop}
+use lib.ListN.{length, getD, take, drop, set, length-append, length-take, length-drop}
+use lib.Seq.{sets, take-at, take-take, take-append-seam, drop-append-seam, drop-append-add, take-add, drop-drop}
 use Rattle.records.specs.Lists.{Each}
-use Rattle.frames.specs.Bytes.{AllBytes, bigEndianFrom, bigEndian, bytesOf, part, numberAt, written, numbersAt, Fit, total}
+use Rattle.frames.specs.Bytes.{AllBytes, bigEndianFrom, bigEndian, bytesOf, part, partsAt, numberAt, written, numbersAt, Fit, total}
 use Rattle.frames.proofs.Elements.{each-take, each-drop}
 use Rattle.frames.proofs.Numbers.{length-bytesOf, bigEndian-bytesOf, bytesOf-bigEndian}
+use Rattle.frames.proofs.Stores.{sets-behind, sets-front}
 
 -- ---- a part
 
@@ -38,34 +39,60 @@ past-piece f front piece rest {width} e =
     let long : length front + width ≡ length (front ++ piece) = omega (arith, e, length-append front piece) in
     λ i. f (long i) (sym (append-assoc front piece rest) i)
 
--- ---- pieces
+-- a part of a part
+part-take : (inner size width : ℕ) (bytes : List ℕ) → inner + size ≤ width → part inner size (take width bytes) ≡ part inner size bytes
+part-take zero size width bytes h = take-take size width bytes (omega arith)
+part-take (suc inner) size zero bytes h = absurd (omega arith)
+part-take (suc inner) size (suc width) [] h = refl
+part-take (suc inner) size (suc width) (b ∷ bytes) h = part-take inner size width bytes (omega arith)
 
--- the pieces that stand one behind the other from a place on, each in its width
-abbrev pub piecesAt : ℕ → List ℕ → List ℕ → List (List ℕ)
-piecesAt at [] bytes = []
-piecesAt at (width ∷ widths) bytes = part at width bytes ∷ piecesAt (at + width) widths bytes
+pub part-within : (at width inner size : ℕ) (bytes : List ℕ) → inner + size ≤ width → part inner size (part at width bytes) ≡ part (at + inner) size bytes
+part-within at width inner size bytes h = part-take inner size width (drop at bytes) h ∙ ap (take size) (drop-drop inner at bytes)
 
--- pieces put together, and cut again where they meet
-pub pieces-flatten : (front : List ℕ) (pieces : List (List ℕ)) → piecesAt (length front) (map length pieces) (front ++ flatten pieces) ≡ pieces
+-- ---- parts one behind the other
+
+-- reading what was written: each stands behind those before it
+part-read : (parts : List (List ℕ)) (k : ℕ) → k < length parts →
+    part (total (take k (map length parts))) (length (getD parts k [])) (flatten parts) ≡ getD parts k []
 unfolding flatten
-pieces-flatten front [] = refl
-pieces-flatten front (piece ∷ pieces) =
-    let rest = flatten pieces in
-    let others = past-piece (λ at l. piecesAt at (map length pieces) l) front piece rest refl ∙ pieces-flatten (front ++ piece) pieces in
-    λ i. part-behind front piece rest refl i ∷ others i
+part-read [] k h = absurd (omega arith)
+part-read (piece ∷ parts) zero h = take-append-seam piece (flatten parts)
+part-read (piece ∷ parts) (suc k) h =
+    ap (take (length (getD parts k []))) (drop-append-add piece (flatten parts) (total (take k (map length parts)))) ∙ part-read parts k (omega arith)
 
--- bytes cut into pieces, and put together again
-pub flatten-pieces : (at : ℕ) (widths bytes : List ℕ) → flatten (piecesAt at widths bytes) ≡ part at (total widths) bytes
+pub part-of : (parts : List (List ℕ)) (k at : ℕ) {width : ℕ} → k < length parts → total (take k (map length parts)) ≡ at →
+    length (getD parts k []) ≡ width → part at width (flatten parts) ≡ getD parts k []
+part-of parts k at h place size = (λ i. part (sym place i) (sym size i) (flatten parts)) ∙ part-read parts k h
+
+-- writing what was read
+pub flatten-parts : (at : ℕ) (widths bytes : List ℕ) → flatten (partsAt at widths bytes) ≡ part at (total widths) bytes
 unfolding flatten
-flatten-pieces at [] bytes = refl
-flatten-pieces at (width ∷ widths) bytes =
-    ap (λ (l : List ℕ). part at width bytes ++ l) (flatten-pieces (at + width) widths bytes) ∙ part-add at width (total widths) bytes
+flatten-parts at [] bytes = refl
+flatten-parts at (width ∷ widths) bytes =
+    ap (λ (l : List ℕ). part at width bytes ++ l) (flatten-parts (at + width) widths bytes) ∙ part-add at width (total widths) bytes
+
+-- a store inside one of them
+pub sets-part : (parts : List (List ℕ)) (k at : ℕ) (a : List ℕ) → k < length parts → at + length a ≤ length (getD parts k []) →
+    sets (flatten parts) (total (take k (map length parts)) + at) a ≡ flatten (set parts k (sets (getD parts k []) at a))
+unfolding flatten
+sets-part [] k at a h room = absurd (omega arith)
+sets-part (piece ∷ parts) zero at a h room =
+    ap (λ (n : ℕ). sets (piece ++ flatten parts) n a) (zero-add at) ∙ sets-front piece (flatten parts) at a room
+sets-part (piece ∷ parts) (suc k) at a h room =
+    ap (λ (n : ℕ). sets (piece ++ flatten parts) n a) (add-assoc (length piece) (total (take k (map length parts))) at)
+    ∙ sets-behind piece (flatten parts) (total (take k (map length parts)) + at) a
+    ∙ ap (λ (l : List ℕ). piece ++ l) (sets-part parts k at a (omega arith) room)
+
+-- a part for each width
+pub length-parts : (at : ℕ) (widths bytes : List ℕ) → length (partsAt at widths bytes) ≡ length widths
+length-parts at [] bytes = refl
+length-parts at (width ∷ widths) bytes = ap suc (length-parts (at + width) widths bytes)
 
 -- as long as all of them
-pub length-flatten : (pieces : List (List ℕ)) → length (flatten pieces) ≡ total (map length pieces)
+pub length-flatten : (parts : List (List ℕ)) → length (flatten parts) ≡ total (map length parts)
 unfolding flatten
 length-flatten [] = refl
-length-flatten (piece ∷ pieces) = length-append piece (flatten pieces) ∙ ap (λ (n : ℕ). length piece + n) (length-flatten pieces)
+length-flatten (piece ∷ parts) = length-append piece (flatten parts) ∙ ap (λ (n : ℕ). length piece + n) (length-flatten parts)
 
 -- ---- numbers
 

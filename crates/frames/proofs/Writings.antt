@@ -2,13 +2,14 @@
 -- and the image from all of them. Assumes nothing.
 use mathlib.Core.Path.{_≡_, refl, sym, ap, _∙_}
 use mathlib.Core.Bool.{Bool, cond}
-use mathlib.Core.List.{List, [], _∷_, _++_, append-assoc}
+use mathlib.Core.List.{List, [], _∷_, _++_, flatten}
 use Prim.Native.Nat.{ℕ, zero, suc, _+_, _*_, _%_, _≤_, _<_}
+use native.Mathlib.Nat.{zero-add}
 use native.Mathlib.Omega.{arith}
 use native.Mathlib.Numerals.{add-one}
 use borrow.Author.Tests.{eqb-true, eqb-false}
 use lib.Dec.{eqb}
-use lib.ListN.{length, getD, drop, set, length-set, length-append, drop-of-length-le}
+use lib.ListN.{length, getD, drop, set, length-set, drop-of-length-le}
 use lib.Seq.{sets, length-sets, drop-cons, ext-getD, getD-set-same, getD-set-other}
 use Rattle.records.specs.declared.band.QoSClass.{QoSClass}
 use Rattle.records.specs.declared.band.QoSClass.the-variants.{UserInteractive, RealTimeIO, Background}
@@ -21,20 +22,21 @@ use Rattle.queue.specs.Entries.{places}
 use Rattle.queue.specs.Stored.{entries, WellFormed}
 use Rattle.scheduler.specs.declared.scheduler.QoSScheduler.{QoSScheduler}
 use Rattle.scheduler.specs.Scheduler.{queuesOf, abs, Whole, Valid}
-use Rattle.rules.specs.State.{State, Queues, ofBand}
+use Rattle.rules.specs.State.{State, Queues, ofBand, withTask}
 use Rattle.rules.specs.Touched.{SameBut}
 use Rattle.scheduler.proofs.Arrays.{read-any, ring-of, entries-of}
 use Rattle.frames.specs.AcceptedImage.{AcceptedImage}
 use Rattle.frames.specs.Answer.{recordBytes}
 use Rattle.frames.specs.Bytes.{bytesOf}
-use Rattle.frames.specs.Image.{recordLength, recordPlace, queueLength, queuesPlace, holdersPlace, microsPlace, imageLength, recordsBytes, queueBytes, queuesBytes, imageOf, stateAt}
+use Rattle.frames.specs.Image.{recordLength, recordPlace, queueLength, queuesPlace, holdersPlace, microsPlace, imageLength, recordsBytes, queueBytes, queuesBytes, imageParts, imageOf, stateAt}
 use Rattle.frames.specs.Fits.{HasImage}
 use Rattle.frames.specs.Private.{Short}
 use Rattle.frames.specs.ReadWrite.{WritesImage}
-use Rattle.frames.proofs.Images.{length-recordsBytes, length-tasks, length-queueBytes, records-first, length-imageOf, writes-back}
-use Rattle.frames.proofs.Runs.{behind, run-on}
+use Rattle.frames.proofs.Images.{length-recordsBytes, length-tasks, length-queueBytes, length-queuesBytes, length-imageOf, writes-back}
+use Rattle.frames.proofs.Runs.{behind, alone, run-on}
 use Rattle.frames.proofs.Sizes.{length-recordBytes}
 use Rattle.frames.proofs.Stores.{sets-append, sets-behind, sets-over, sets-all}
+use Rattle.frames.proofs.Widths.{sets-part}
 
 -- ---- the records
 
@@ -42,7 +44,7 @@ use Rattle.frames.proofs.Stores.{sets-append, sets-behind, sets-over, s
 pub records-on : (o : List ℕ) {now : List ℕ} (tasks : List TaskControlBlock) (slot : ℕ) (d : TaskControlBlock) → slot < length tasks
     → now ≡ sets o (recordLength * slot) (recordBytes (getD tasks slot d))
     → sets now (recordLength * (slot + 1)) (recordsBytes (drop (slot + 1) tasks)) ≡ sets o (recordLength * slot) (recordsBytes (drop slot tasks))
-unfolding recordsBytes
+unfolding recordsBytes flatten
 records-on o tasks slot d h e =
     let t = getD tasks slot d in
     let next : recordLength * (slot + 1) ≡ recordLength * slot + length (recordBytes t) = omega (arith, length-recordBytes t) in
@@ -52,24 +54,30 @@ records-on o tasks slot d h e =
 
 -- none is left
 pub records-end : (o : List ℕ) (tasks : List TaskControlBlock) (slot : ℕ) → length tasks ≤ slot → o ≡ sets o (recordLength * slot) (recordsBytes (drop slot tasks))
-unfolding recordsBytes
+unfolding recordsBytes flatten
 records-end o tasks slot h = ap (λ ts. sets o (recordLength * slot) (recordsBytes ts)) (sym (drop-of-length-le tasks h))
 
--- a record over that of its slot, whatever stands behind the records
-record-over : (tasks : List TaskControlBlock) (rest : List ℕ) (slot : ℕ) (t : TaskControlBlock) → slot < length tasks →
-    sets (recordsBytes tasks ++ rest) (recordPlace slot) (recordBytes t) ≡ recordsBytes (set tasks slot t) ++ rest
-unfolding recordsBytes
-record-over [] rest slot t h = absurd (omega arith)
-record-over (u ∷ tasks) rest zero t h =
-    ap (λ (l : List ℕ). sets l 0 (recordBytes t)) (append-assoc (recordBytes u) (recordsBytes tasks) rest)
-    ∙ sets-over (recordBytes u) (recordsBytes tasks ++ rest) (recordBytes t) (length-recordBytes u ∙ sym (length-recordBytes t))
-    ∙ sym (append-assoc (recordBytes t) (recordsBytes tasks) rest)
-record-over (u ∷ tasks) rest (suc slot) t h =
+-- a record over that of its slot, among the records and in the image
+record-over : (tasks : List TaskControlBlock) (slot : ℕ) (t : TaskControlBlock) → slot < length tasks →
+    sets (recordsBytes tasks) (recordPlace slot) (recordBytes t) ≡ recordsBytes (set tasks slot t)
+unfolding recordsBytes flatten
+record-over [] slot t h = absurd (omega arith)
+record-over (u ∷ tasks) zero t h = sets-over (recordBytes u) (recordsBytes tasks) (recordBytes t) (length-recordBytes u ∙ sym (length-recordBytes t))
+record-over (u ∷ tasks) (suc slot) t h =
     let place : recordPlace (suc slot) ≡ length (recordBytes u) + recordPlace slot = omega (arith, length-recordBytes u) in
-    (λ i. sets (append-assoc (recordBytes u) (recordsBytes tasks) rest i) (place i) (recordBytes t))
-    ∙ sets-behind (recordBytes u) (recordsBytes tasks ++ rest) (recordPlace slot) (recordBytes t)
-    ∙ ap (λ (l : List ℕ). recordBytes u ++ l) (record-over tasks rest slot t (omega arith))
-    ∙ sym (append-assoc (recordBytes u) (recordsBytes (set tasks slot t)) rest)
+    ap (λ (n : ℕ). sets (recordBytes u ++ recordsBytes tasks) n (recordBytes t)) place
+    ∙ sets-behind (recordBytes u) (recordsBytes tasks) (recordPlace slot) (recordBytes t)
+    ∙ ap (λ (l : List ℕ). recordBytes u ++ l) (record-over tasks slot t (omega arith))
+
+record-stored : (s : State) (slot : ℕ) (t : TaskControlBlock) → slot < length (s .tasks) →
+    sets (imageOf s) (recordPlace slot) (recordBytes t) ≡ imageOf (withTask s slot t)
+unfolding imageOf
+record-stored s slot t h =
+    let room : recordPlace slot + length (recordBytes t) ≤ length (recordsBytes (s .tasks)) =
+    omega (arith, length-recordBytes t, length-recordsBytes (s .tasks)) in
+    ap (λ (n : ℕ). sets (imageOf s) n (recordBytes t)) (sym (zero-add (recordPlace slot)))
+    ∙ sets-part (imageParts s) 0 (recordPlace slot) (recordBytes t) (omega arith) room
+    ∙ ap (λ (records : List ℕ). flatten (set (imageParts s) 0 records)) (record-over (s .tasks) slot t h)
 
 -- a list from one that differs at two places only
 set-two : {A : Type 0} (d e : A) (l m : List A) (i j : ℕ) → length l ≡ length m → i < length l → j < length l →
@@ -101,32 +109,14 @@ queue-put es short o {o₁} at e₁ x e₂ p =
     run-on o at 1 (at + 1) (places es) e₁ x refl (e₂ ∙ ap (sets o₁ (at + 1)) p)
     ∙ ap (λ front. sets o at (front ++ places es)) (one-byte (length es) (omega (arith, short)))
 
-pub length-queuesBytes : (q : Queues) → Short q → length (queuesBytes q) ≡ 3 * queueLength
-unfolding queuesBytes
-length-queuesBytes q short =
-    let first = queueBytes (q .interactive) in
-    let second = queueBytes (q .realTime) in
-    omega (
-      arith,
-      length-append (first ++ second) (queueBytes (q .background)),
-      length-append first second,
-      length-queueBytes (q .interactive) (short UserInteractive),
-      length-queueBytes (q .realTime) (short RealTimeIO),
-      length-queueBytes (q .background) (short Background),
-    )
-
 -- the first band's, the second's behind it, the third's behind both
 queues-behind : (q : Queues) → Short q → (o : List ℕ) {o₁ o₂ o₃ : List ℕ} (at : ℕ) → o₁ ≡ sets o at (queueBytes (q .interactive))
     → o₂ ≡ sets o₁ (at + queueLength) (queueBytes (q .realTime)) → o₃ ≡ sets o₂ (at + 2 * queueLength) (queueBytes (q .background)) → o₃ ≡ sets o at (queuesBytes q)
-unfolding queuesBytes
-queues-behind q short o at e₁ e₂ e₃ =
-    let first = queueBytes (q .interactive) in
-    let second = queueBytes (q .realTime) in
-    let n₁ = length-queueBytes (q .interactive) (short UserInteractive) in
-    let n₂ = length-queueBytes (q .realTime) (short RealTimeIO) in
-    behind o at (at + 2 * queueLength) (first ++ second) (queueBytes (q .background))
-    (behind o at (at + queueLength) first second e₁ (ap (λ (n : ℕ). at + n) (sym n₁)) e₂)
-    (omega (arith, n₁, n₂, length-append first second)) e₃
+unfolding queuesBytes flatten
+queues-behind q short o {o₁} {o₂} at e₁ e₂ e₃ =
+    behind o at (at + queueLength) (queueBytes (q .interactive)) _ e₁ (omega (arith, length-queueBytes (q .interactive) (short UserInteractive)))
+    (behind o₁ (at + queueLength) (at + 2 * queueLength) (queueBytes (q .realTime)) _ e₂ (omega (arith, length-queueBytes (q .realTime) (short RealTimeIO)))
+    (alone o₂ (at + 2 * queueLength) (queueBytes (q .background)) e₃))
 
 module _ (qs : List BandQueue) (w : Whole qs) (short : Short (queuesOf qs)) where
   -- each of the three may be stored
@@ -152,16 +142,13 @@ module _ (s : QoSScheduler) (v : Valid s) where
   pub image-put : (o : List ℕ) {o₁ o₂ o₃ o₄ : List ℕ} → length o ≡ imageLength → o₁ ≡ sets o 0 (recordsBytes (s .tasks))
       → o₂ ≡ sets o₁ queuesPlace (queuesBytes (queuesOf (s .queues))) → o₃ ≡ sets o₂ holdersPlace (s .current) → o₄ ≡ sets o₃ microsPlace (bytesOf 8 (s .«system_ticks_us»))
       → o₄ ≡ imageOf (abs s)
-  unfolding imageOf abs
-  image-put o long e₁ e₂ e₃ e₄ =
-      let records = recordsBytes (s .tasks) in
-      let queues = queuesBytes (queuesOf (s .queues)) in
-      let n₁ : length records ≡ queuesPlace = length-recordsBytes (s .tasks) ∙ omega (arith, v .accepted .slots) in
-      let n₂ : length queues ≡ 3 * queueLength = length-queuesBytes (queuesOf (s .queues)) queues-short in
-      let behind-records = behind o 0 queuesPlace records queues e₁ (omega (arith, n₁)) e₂ in
-      let behind-queues = behind o 0 holdersPlace (records ++ queues) (s .current) behind-records (omega (arith, n₁, n₂, length-append records queues)) e₃ in
-      behind o 0 microsPlace (records ++ queues ++ s .current) (bytesOf 8 (s .«system_ticks_us»)) behind-queues
-      (omega (arith, n₁, n₂, v .accepted .cores, length-append records queues, length-append (records ++ queues) (s .current))) e₄
+  unfolding imageOf flatten abs
+  image-put o {o₁} {o₂} {o₃} long e₁ e₂ e₃ e₄ =
+      let records : length (recordsBytes (s .tasks)) ≡ queuesPlace = length-recordsBytes (s .tasks) ∙ omega (arith, v .accepted .slots) in
+      behind o 0 queuesPlace (recordsBytes (s .tasks)) _ e₁ (omega (arith, records))
+      (behind o₁ queuesPlace holdersPlace (queuesBytes (queuesOf (s .queues))) _ e₂ (omega (arith, length-queuesBytes (queuesOf (s .queues)) queues-short))
+      (behind o₂ holdersPlace microsPlace (s .current) _ e₃ (omega (arith, v .accepted .cores))
+      (alone o₃ microsPlace (bytesOf 8 (s .«system_ticks_us»)) e₄)))
       ∙ sets-all o _ (length-imageOf (abs s) (v .accepted) ∙ sym long)
 
   -- the same over the image of a state with the same records but for those of two slots
@@ -171,23 +158,21 @@ module _ (s : QoSScheduler) (v : Valid s) where
       → o₂ ≡ sets o₁ (recordPlace (second % 64)) (recordBytes (getD (s .tasks) (second % 64) d))
       → o₃ ≡ sets o₂ queuesPlace (queuesBytes (queuesOf (s .queues))) → o₄ ≡ sets o₃ holdersPlace (s .current)
       → o₅ ≡ sets o₄ microsPlace (bytesOf 8 (s .«system_ticks_us»)) → o₅ ≡ imageOf (abs s)
-  unfolding abs
+  unfolding imageOf flatten abs
   image-over image {o₁} {o₂} first second d a same e₁ e₂ =
-      let old = stateAt image .tasks in
-      let rest = records-first (stateAt image) .0 in
-      let size : length old ≡ 64 = length-tasks image in
-      let slots : length (s .tasks) ≡ 64 = v .accepted .slots in
+      let old = stateAt image in
+      let size : length (old .tasks) ≡ 64 = length-tasks image in
       let t = getD (s .tasks) (first % 64) d in
       let u = getD (s .tasks) (second % 64) d in
-      let begin : image ≡ recordsBytes old ++ rest = sym (writes-back image a) ∙ records-first (stateAt image) .1 in
-      let one : o₁ ≡ recordsBytes (set old (first % 64) t) ++ rest =
-      e₁ ∙ ap (λ (l : List ℕ). sets l (recordPlace (first % 64)) (recordBytes t)) begin ∙ record-over old rest (first % 64) t (omega (arith, size)) in
-      let two : o₂ ≡ recordsBytes (set (set old (first % 64) t) (second % 64) u) ++ rest =
+      let one : o₁ ≡ imageOf (withTask old (first % 64) t) =
+      e₁ ∙ ap (λ (l : List ℕ). sets l (recordPlace (first % 64)) (recordBytes t)) (sym (writes-back image a)) ∙ record-stored old (first % 64) t (omega (arith, size)) in
+      let two : o₂ ≡ imageOf (withTask (withTask old (first % 64) t) (second % 64) u) =
       e₂ ∙ ap (λ (l : List ℕ). sets l (recordPlace (second % 64)) (recordBytes u)) one
-      ∙ record-over (set old (first % 64) t) rest (second % 64) u (omega (arith, size, length-set old (first % 64) t)) in
-      let whole : set (set old (first % 64) t) (second % 64) u ≡ s .tasks =
-      set-two emptyRecord d old (s .tasks) (first % 64) (second % 64) (size ∙ sym slots) (omega (arith, size)) (omega (arith, size))
+      ∙ record-stored (withTask old (first % 64) t) (second % 64) u (omega (arith, size, length-set (old .tasks) (first % 64) t)) in
+      let whole : set (set (old .tasks) (first % 64) t) (second % 64) u ≡ s .tasks =
+      set-two emptyRecord d (old .tasks) (s .tasks) (first % 64) (second % 64) (size ∙ sym (v .accepted .slots)) (omega (arith, size)) (omega (arith, size))
       (λ k low not-one not-two. same k (λ e. not-one (omega (arith, e, low, size))) (λ e. not-two (omega (arith, e, low, size)))) in
+      let rest = flatten (drop 1 (imageParts old)) in
       let all : o₂ ≡ recordsBytes (s .tasks) ++ rest = two ∙ ap (λ (ts : List TaskControlBlock). recordsBytes ts ++ rest) whole in
       image-put o₂ (ap length e₂ ∙ length-sets o₁ _ (recordBytes u) ∙ ap length e₁ ∙ length-sets image _ (recordBytes t) ∙ a .length-is)
       (sym (ap (λ (l : List ℕ). sets l 0 (recordsBytes (s .tasks))) all ∙ sets-over (recordsBytes (s .tasks)) rest (recordsBytes (s .tasks)) refl ∙ sym all))

@@ -1,20 +1,16 @@
 -- Document 01, "Task record, queues, holders": "It is accepted exactly when [..]". The conditions one by one, and the test that computes. Codes,
--- lengths and unused bytes are asked of the bytes themselves, since a state that is read has lost them; all else of the state that they stand for,
--- in which a number of 64 and above is no slot.
+-- lengths and unused bytes are asked of the bytes themselves, since a state that is read has lost them; all else of the state that they stand for
+-- (Accepted, in rules), in which a number of 64 and above is no slot.
 use mathlib.Core.Path.{_≡_}
-use mathlib.Core.Bool.{Bool, cond, not, _&&_}
+use mathlib.Core.Bool.{Bool, cond, _&&_}
 use mathlib.Core.List.{List}
-use mathlib.Core.Logic.{_⊎_}
 use Prim.Native.Nat.{ℕ, _≤_, _<_}
 use lib.Dec.{ltb, leb, eqb}
 use lib.ListN.{length, getD}
 use Rattle.records.specs.declared.band.QoSClass.{QoSClass}
-use Rattle.records.specs.declared.state.ThreadState.the-variants.{Ready, Terminated}
-use Rattle.records.specs.Band.{slice}
 use Rattle.records.specs.Lists.{every, everyBelow}
-use Rattle.records.specs.ThreadState.{isState}
-use Rattle.rules.specs.Accepted.{ReadyOf, MayHold, standings, recordFits, readyOf, standsOnce, holderFits}
-use Rattle.rules.specs.State.{noneByte, bandOrder, task, holder}
+use Rattle.rules.specs.Accepted.{Accepted, recordFits, readyOf, standsOnce, holderFits}
+use Rattle.rules.specs.State.{bandOrder, task, holder}
 use Rattle.frames.specs.Answer.{recordWidths}
 use Rattle.frames.specs.Bytes.{AllBytes, numbersAt}
 use Rattle.frames.specs.Image.{imageLength, recordAt, queueAt, lengthByte, slotByte, stateAt}
@@ -31,34 +27,26 @@ inUseByte bytes = getD (numbersAt 0 recordWidths bytes) 9 0
 
 -- ---- the conditions
 
-pub record AcceptedImage (image : List ℕ) : Type 0 where
-  -- "The image (added) is 3,275 bytes"
-  pub length-is : length image ≡ imageLength
+-- of the four parts above, whatever stands behind them
+pub record AcceptedBase (image : List ℕ) : Type 0 where
   pub bytes : AllBytes image
   -- "band, state and in-use codes are as above"
   pub bands : (slot : ℕ) → slot < 64 → bandByte (recordAt slot image) < 3
   pub states : (slot : ℕ) → slot < 64 → stateByte (recordAt slot image) < 4
   pub in-uses : (slot : ℕ) → slot < 64 → inUseByte (recordAt slot image) < 2
-  -- "in use is 0 exactly for Terminated"
-  pub in-use : (slot : ℕ) → slot < 64 → task (stateAt image) slot .«in_use» ≡ not (isState (task (stateAt image) slot .state) Terminated)
-  -- "no mask is 0"
-  pub masks : (slot : ℕ) → slot < 64 → task (stateAt image) slot .«cpu_affinity» ≡ 0 → ⊥
   -- "lengths are at most 64"
   pub lengths : (band : QoSClass) → lengthByte (queueAt band image) ≤ 64
   -- "and unused queue bytes 0"
   pub unused : (band : QoSClass) (place : ℕ) → lengthByte (queueAt band image) ≤ place → place < 64 → slotByte place (queueAt band image) ≡ 0
-  -- "every queue entry is a Ready slot of that band"
-  pub entries : (band : QoSClass) (place : ℕ) → place < lengthByte (queueAt band image) →
-      ReadyOf band (task (stateAt image) (slotByte place (queueAt band image)))
-  -- "every Ready slot stands in the queues once"
-  pub once : (slot : ℕ) → slot < 64 → task (stateAt image) slot .state ≡ Ready → standings (stateAt image) slot ≡ 1
-  -- "every holder is 255 or a slot in use whose budget is its slice"
-  pub holders : (core : ℕ) → core < 64 → (holder (stateAt image) core ≡ noneByte) ⊎ MayHold (task (stateAt image) (holder (stateAt image) core))
-  -- "every budget is 0 or its slice"
-  pub budgets : (slot : ℕ) → slot < 64 →
-      (task (stateAt image) slot .«slice_budget_us» ≡ 0) ⊎ (task (stateAt image) slot .«slice_budget_us» ≡ slice (task (stateAt image) slot .qos))
-  -- "every consumed is below its slice"
-  pub consumed : (slot : ℕ) → slot < 64 → task (stateAt image) slot .«consumed_slice_us» < slice (task (stateAt image) slot .qos)
+  -- all else, each at its field there: "in use is 0 exactly for Terminated; no mask is 0; [..] every queue entry is a Ready slot of that band; every
+  -- Ready slot stands in the queues once; every holder is 255 or a slot in use whose budget is its slice; every budget is 0 or its slice; every
+  -- consumed is below its slice"
+  pub state : Accepted (stateAt image)
+
+pub record AcceptedImage (image : List ℕ) : Type 0 where
+  -- "The image (added) is 3,275 bytes"
+  pub length-is : length image ≡ imageLength
+  pub base : AcceptedBase image
 
 -- ---- the test
 
@@ -82,11 +70,13 @@ bandFits image band = leb (lengthByte (queueAt band image)) 64 && everyBelow 64 
 unfoldable pub coreFits : List ℕ → ℕ → Bool
 coreFits image core = holderFits (stateAt image) (holder (stateAt image) core)
 
-unfoldable pub acceptsImage : List ℕ → Bool
-acceptsImage image =
-    eqb (length image) imageLength &&
+unfoldable pub acceptsBase : List ℕ → Bool
+acceptsBase image =
     every (λ b. ltb b 256) image &&
     everyBelow 64 (slotFits image) &&
     every (bandFits image) bandOrder &&
     everyBelow 64 (standsOnce (stateAt image)) &&
     everyBelow 64 (coreFits image)
+
+unfoldable pub acceptsImage : List ℕ → Bool
+acceptsImage image = eqb (length image) imageLength && acceptsBase image

@@ -1,9 +1,10 @@
 -- Document 01, "Task record, queues, holders": the image. `imageOf` is the bytes of a state, `stateAt` the state that bytes stand for; both are
--- total, and which bytes are an image that is accepted is AcceptedImage.antt's matter. The table has every length and place once.
-use mathlib.Core.List.{List, [], _∷_, _++_}
-use Prim.Native.Nat.{ℕ, zero, suc, _+_, _*_, _<_, _^_}
+-- total, and which bytes are an image that is accepted is AcceptedImage.antt's matter. Both go by one list of parts: a part is a length in
+-- `partLengths`, its bytes in `imageParts` and what they stand for in `stateAt`.
+use mathlib.Core.List.{List, [], _∷_, map, flatten}
+use Prim.Native.Nat.{ℕ, suc, _+_, _*_, _<_, _^_}
 use lib.Dec.{eqb}
-use lib.ListN.{length, getD, take, drop}
+use lib.ListN.{length, getD, take, replicate}
 use Rattle.records.specs.declared.band.BandOption.{BandOption}
 use Rattle.records.specs.declared.band.BandOption.the-variants as band
 use Rattle.records.specs.declared.band.QoSClass.{QoSClass}
@@ -18,11 +19,11 @@ use Rattle.records.specs.ThreadState.{codedState}
 use Rattle.records.specs.Task.{emptyRecord}
 use Rattle.queue.specs.Entries.{places}
 use Rattle.rules.specs.Paper.{recordNumbers}
-use Rattle.rules.specs.State.{State, Queues}
+use Rattle.rules.specs.State.{State, Queues, bandOrder, ofBand}
 use Rattle.frames.specs.Answer.{recordWidths, recordBytes}
-use Rattle.frames.specs.Bytes.{bytesOf, part, numberAt, numbersAt, total, Fit}
+use Rattle.frames.specs.Bytes.{bytesOf, bigEndian, part, partsAt, numbersAt, total, Fit}
 
--- ---- the table
+-- ---- the parts
 
 -- "A record is 47 bytes"
 abbrev pub recordLength : ℕ
@@ -32,32 +33,46 @@ recordLength = total recordWidths
 abbrev pub queueLength : ℕ
 queueLength = 1 + 64
 
--- where each part begins, each behind the one before
+-- "64 records (3,008), three queues [..] (195), holders (64), system microseconds (8)", one behind the other
+abbrev pub partLengths : List ℕ
+partLengths = 64 * recordLength ∷ 3 * queueLength ∷ 64 ∷ 8 ∷ []
+
+-- "The image (added) is 3,275 bytes"
+abbrev pub imageLength : ℕ
+imageLength = total partLengths
+
+-- where the part of a number begins, and its bytes
+abbrev pub placeOf : ℕ → ℕ
+placeOf n = total (take n partLengths)
+
+abbrev pub partAt : ℕ → List ℕ → List ℕ
+partAt n image = part (placeOf n) (getD partLengths n 0) image
+
+-- the same places by name; a record's, and a queue's in its part
 abbrev pub recordPlace : ℕ → ℕ
 recordPlace slot = recordLength * slot
 
 abbrev pub queuesPlace : ℕ
-queuesPlace = 64 * recordLength
+queuesPlace = placeOf 1
 
 abbrev pub queuePlace : QoSClass → ℕ
 queuePlace band = queuesPlace + queueLength * bandCode band
 
 abbrev pub holdersPlace : ℕ
-holdersPlace = queuesPlace + 3 * queueLength
+holdersPlace = placeOf 2
 
 abbrev pub microsPlace : ℕ
-microsPlace = holdersPlace + 64
+microsPlace = placeOf 3
 
--- "The image (added) is 3,275 bytes"
-abbrev pub imageLength : ℕ
-imageLength = microsPlace + 8
+-- what these four parts take, whatever stands behind them
+abbrev pub baseLength : ℕ
+baseLength = placeOf 4
 
 -- ---- the bytes of a state
 
 -- records, one behind the other
 unfoldable pub recordsBytes : List TaskControlBlock → List ℕ
-recordsBytes [] = []
-recordsBytes (t ∷ tasks) = recordBytes t ++ recordsBytes tasks
+recordsBytes tasks = flatten (map recordBytes tasks)
 
 -- "a length byte and 64 slot bytes from front to tail, unused ones 0"
 unfoldable pub queueBytes : List ℕ → List ℕ
@@ -65,11 +80,14 @@ queueBytes es = length es ∷ places es
 
 -- "three queues", in the order of the bands
 unfoldable pub queuesBytes : Queues → List ℕ
-queuesBytes q = queueBytes (q .interactive) ++ queueBytes (q .realTime) ++ queueBytes (q .background)
+queuesBytes q = flatten (map (λ band. queueBytes (ofBand q band)) bandOrder)
 
--- "64 records (3,008), three queues [..] (195), holders (64), system microseconds (8)"
+-- the bytes of each part
+abbrev pub imageParts : State → List (List ℕ)
+imageParts s = recordsBytes (s .tasks) ∷ queuesBytes (s .queues) ∷ s .holders ∷ bytesOf 8 (s .micros) ∷ []
+
 unfoldable pub imageOf : State → List ℕ
-imageOf s = recordsBytes (s .tasks) ++ queuesBytes (s .queues) ++ s .holders ++ bytesOf 8 (s .micros)
+imageOf s = flatten (imageParts s)
 
 -- ---- the state of bytes
 
@@ -109,16 +127,9 @@ recordIn bytes = recordFrom (numbersAt 0 recordWidths bytes)
 
 -- the first n records
 unfoldable pub recordsIn : ℕ → List ℕ → List TaskControlBlock
-recordsIn zero bytes = []
-recordsIn (suc n) bytes = recordIn (take recordLength bytes) ∷ recordsIn n (drop recordLength bytes)
+recordsIn n bytes = map recordIn (partsAt 0 (replicate n recordLength) bytes)
 
--- the 47 bytes of a slot's record, the 65 bytes of a band's queue, and in these the length byte and the entries
-abbrev pub recordAt : ℕ → List ℕ → List ℕ
-recordAt slot image = part (recordPlace slot) recordLength image
-
-abbrev pub queueAt : QoSClass → List ℕ → List ℕ
-queueAt band image = part (queuePlace band) queueLength image
-
+-- of the 65 bytes of a queue the length byte, a slot byte, and the entries
 abbrev pub lengthByte : List ℕ → ℕ
 lengthByte bytes = getD bytes 0 0
 
@@ -128,18 +139,32 @@ slotByte place bytes = getD bytes (suc place) 0
 abbrev pub queueIn : List ℕ → List ℕ
 queueIn bytes = part 1 (lengthByte bytes) bytes
 
--- the same parts, read
+-- a band's queue among the three, and the three
+abbrev pub queueOf : QoSClass → List ℕ → List ℕ
+queueOf band bytes = queueIn (part (queueLength * bandCode band) queueLength bytes)
+
+abbrev pub queuesIn : List ℕ → Queues
+queuesIn bytes = record {
+  interactive = queueOf UserInteractive bytes;
+  realTime = queueOf RealTimeIO bytes;
+  background = queueOf Background bytes;
+}
+
+-- the state from each part
 unfoldable pub stateAt : List ℕ → State
 stateAt image = record {
-  tasks = recordsIn 64 image;
-  queues = record {
-    interactive = queueIn (queueAt UserInteractive image);
-    realTime = queueIn (queueAt RealTimeIO image);
-    background = queueIn (queueAt Background image);
-  };
-  holders = part holdersPlace 64 image;
-  micros = numberAt microsPlace 8 image;
+  tasks = recordsIn 64 (partAt 0 image);
+  queues = queuesIn (partAt 1 image);
+  holders = partAt 2 image;
+  micros = bigEndian (partAt 3 image);
 }
+
+-- the 47 bytes of a slot's record, and the 65 bytes of a band's queue, where they stand in the image
+abbrev pub recordAt : ℕ → List ℕ → List ℕ
+recordAt slot image = part (recordPlace slot) recordLength image
+
+abbrev pub queueAt : QoSClass → List ℕ → List ℕ
+queueAt band image = part (queuePlace band) queueLength image
 
 -- ---- sizes
 
