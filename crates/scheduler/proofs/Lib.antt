@@ -10,6 +10,7 @@ pub mod MachineValues
 pub mod Lending
 pub mod Loans
 pub mod Arrays
+pub mod Puts
 mod Searches
 mod Seeking
 mod Removals

@@ -1,6 +1,6 @@
 -- The new scheduler, the queries and the private parts meet their contract: a law for each way out of the code. `s` is the scheduler that is
 -- asked, and the reads' defaults are whatever the code takes. Assumes nothing.
-use mathlib.Core.Path.{_≡_, refl, sym, ap, _∙_, subst}
+use mathlib.Core.Path.{_≡_, refl, sym, ap, _∙_}
 use mathlib.Core.Bool.{Bool, true, false}
 use mathlib.Core.List.{[]}
 use Prim.Native.Nat.{ℕ, _≤_, _<_}
@@ -13,7 +13,6 @@ use Rattle.records.specs.declared.ids.SlotOption.{SlotOption}
 use Rattle.records.specs.declared.ids.SlotOption.the-variants as slot
 use Rattle.records.specs.declared.task.TaskControlBlock.{TaskControlBlock}
 use Rattle.records.specs.Mask.{permits}
-use Rattle.records.specs.Task.{emptyRecord}
 use Rattle.queue.specs.declared.BandQueue.{BandQueue}
 use Rattle.queue.specs.Stored.{Holds}
 use Rattle.rules.specs.declared.answer.ContextSwitchTarget.{ContextSwitchTarget}
@@ -25,43 +24,30 @@ use Rattle.rules.specs.declared.answer.Value.the-variants as value
 use Rattle.scheduler.specs.declared.picking.Form.the-variants as form
 use Rattle.scheduler.specs.declared.scheduler.QoSScheduler.{QoSScheduler}
 use Rattle.rules.specs.State as state
-use Rattle.records.specs.Lists.{Each, firstPlace}
+use Rattle.records.specs.Lists.{firstPlace}
 use Rattle.rules.specs.State.{noneByte, newState, holderIn, holderOf}
-use Rattle.rules.specs.Accepted.{Accepted}
 use Rattle.rules.specs.Queries.{canRunOnCore, hasTid, taskIndexForTid, taskAt, holderRecord, currentTaskOnCpu, coreOf}
 use Rattle.rules.specs.Ticking.{same}
 use Rattle.rules.specs.Waking.{released}
-use Rattle.scheduler.specs.Scheduler.{queuesOf, abs, Valid, IsNew}
+use Rattle.scheduler.specs.Scheduler.{abs, Valid, IsNew}
 use Rattle.scheduler.specs.Private.{switchTo, targetWith, whoRuns}
 use Rattle.rules.proofs.Calls.{new-accepted}
 use Rattle.scheduler.proofs.Holders.{held, holder-below}
 use Rattle.scheduler.proofs.Searches.{search-found}
-use Rattle.scheduler.proofs.Arrays.{slots, record-at}
+use Rattle.scheduler.proofs.Arrays.{slots, record-at, three-hold}
+use Rattle.scheduler.proofs.Puts.{storedAs, HoldsState, stored-as, holds-valid}
 
 -- ---- the new scheduler
 
 module _ {q : BandQueue} (h : Holds q []) where
   abbrev made : QoSScheduler
-  made = record { tasks = replicate 64 emptyRecord; queues = replicate 3 q; current = replicate 64 noneByte; «system_ticks_us» = 0 }
+  made = storedAs newState (replicate 3 q)
 
-  made-is : abs made ≡ newState
-  unfolding abs queuesOf
-  made-is = λ i. record {
-    tasks = replicate 64 emptyRecord;
-    queues = record { interactive = h .entries-are i; realTime = h .entries-are i; background = h .entries-are i };
-    holders = replicate 64 noneByte;
-    micros = 0;
-  }
+  made-holds : HoldsState made newState
+  made-holds = stored-as newState (three-hold h h h)
 
   pub new-made : IsNew made
-  unfolding Each
-  new-made = record {
-    valid = record {
-      whole = record { bands = refl; rings = (h .well-formed, (h .well-formed, (h .well-formed, tt))) };
-      accepted = subst Accepted (sym made-is) new-accepted;
-    };
-    state-is = made-is;
-  }
+  new-made = record { valid = holds-valid made-holds new-accepted; state-is = made-holds .state-is }
 
 -- ---- a number that stands for a slot or for none
 

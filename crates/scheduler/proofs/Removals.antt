@@ -17,7 +17,7 @@ use Rattle.queue.specs.Stored.{entries, Holds}
 use Rattle.queue.specs.Entries.{without}
 use Rattle.rules.specs.State.{Queues, ofBand, withBand, eachQueue}
 use Rattle.scheduler.specs.Scheduler.{queuesOf, Whole, HoldQueues}
-use Rattle.scheduler.proofs.Arrays.{band-at, entries-at, queue-put}
+use Rattle.scheduler.proofs.Arrays.{band-at, queue-changed}
 
 -- ---- a list whose first k elements are mapped
 
@@ -80,7 +80,7 @@ module _ (slot : ℕ) where
         HoldQueues (set qs (bandCode b) r) (outBelow (bandCode b + 1) q)
     out-of-band {r} b d h is =
         let put : HoldQueues (set qs (bandCode b) r) (withBand (queuesOf qs) b (without slot (ofBand (queuesOf qs) b))) =
-        queue-put qs (h .whole) b refl (subst (λ (l : List ℕ). Holds r (without slot l)) (entries-at qs (h .whole) b refl d) is) in
+        queue-changed qs (h .whole) b refl d (without slot) is in
         subst (HoldQueues (set qs (bandCode b) r)) (ap (λ (p : Queues). withBand p b (without slot (ofBand p b))) (h .entries-are) ∙ out-next b q) put
 
     -- out of the queue at place n: on to the next

@@ -21,6 +21,7 @@ mod ticking;
 mod waking;
 
 pub use rules::Answer;
+pub use rules::Call;
 pub use rules::ContextSwitchPlan;
 pub use rules::ContextSwitchTarget;
 pub use rules::CoreOption;
@@ -30,7 +31,6 @@ pub use rules::PlanOption;
 pub use rules::Status;
 pub use rules::TaskOption;
 pub use rules::Value;
-pub use rules::Call;
 pub use scheduler::NO_HOLDER;
 pub use scheduler::QoSScheduler;
 pub use scheduler::Reply;

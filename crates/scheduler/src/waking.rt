@@ -52,10 +52,7 @@ impl QoSScheduler {
             if !self.tasks[free].in_use {
                 self.tasks[free] = TaskControlBlock::created(tid, qos, context_handle, cr3, rsp0);
                 return Reply {
-                    answer: done(
-                        PickOption::None,
-                        Value::Slot(SlotOption::Some(Slot(free))),
-                    ),
+                    answer: done(PickOption::None, Value::Slot(SlotOption::Some(Slot(free)))),
                     state: self,
                 };
             }
