@@ -20,7 +20,8 @@ use Rattle.rules.specs.Stretch.{Event, events, breaks, picks}
 use Rattle.rules.specs.Waiting.{Point}
 use Rattle.rules.specs.Longest.{Longest}
 use Rattle.scheduler.specs.Scheduler.{abs, Valid, IsNew, Meets, MeetsLent}
-use Rattle.claims.specs.History.{Made, History, MadeEither, byValue, lent, Mixed, madeOf, left, callsOf, happened, stretchIn, outcomeOf, CodePoint, CodeClaim}
+use Rattle.claims.specs.History.{Made, History, MadeEither, byValue, lent, Mixed, madeOf, left, callsOf}
+use Rattle.claims.specs.History.{happened, stretchIn, outcomeOf, CodePoint, CodeClaim}
 use Rattle.rules.proofs.Calls.{new-accepted, call-accepted}
 use Rattle.rules.proofs.Stretches.{longest}
 use Rattle.rules.proofs.Waiting.{rules-demand3}

@@ -39,7 +39,8 @@ use Rattle.rules.proofs.Calls.{call-accepted}
 use Rattle.rules.proofs.Invariant.{ready-in-table}
 use Rattle.rules.proofs.Picks.{P-past, P-below}
 use Rattle.scheduler.proofs.Promises.{meets-told, meets-given, gives-chosen}
-use Rattle.scheduler.proofs.Seeking.{Seeking, seeking-band, seeking-place, found-place, found-first, before, chosen, none-chosen, waits-found, waits-none}
+use Rattle.scheduler.proofs.Seeking.{Seeking, seeking-band, seeking-place, found-place, found-first, before, chosen, none-chosen}
+use Rattle.scheduler.proofs.Seeking.{waits-found, waits-none}
 use Rattle.scheduler.proofs.Arrays.{record-at, band-at, queue-at}
 use Rattle.scheduler.proofs.Puts.{putTask, putQueue, putHolder, HoldsState, as-found, put-task, put-queue, put-holder}
 
@@ -139,6 +140,7 @@ module _ {s : QoSScheduler} (v : Valid s) {core : ℕ} where
 
 -- ---- the tick's test
 
-module _ {s : QoSScheduler} (v : Valid s) {core band place : ℕ} (k : Seeking (abs s) core band place) (qos : QoSClass) {own : ℕ} (own-is : own ≡ bandCode qos) where
+module _ {s : QoSScheduler} (v : Valid s) {core band place : ℕ} (k : Seeking (abs s) core band place)
+    (qos : QoSClass) {own : ℕ} (own-is : own ≡ bandCode qos) where
   pub test-none : own ≤ band → false ≡ waitsBefore qos (abs s) core
   test-none past = sym (waits-none (abs s) core qos (λ c l. k .passed c (omega arith)))

@@ -86,7 +86,8 @@ module _ {s : QoSScheduler} (v : Valid s) {n : ℕ} (d : TaskControlBlock) (low 
 -- ---- the lowest slot with a tid, and the lowest core with a slot
 
 module _ {s : QoSScheduler} (v : Valid s) (tid : ℕ) {k : ℕ} (so-far : k ≤ firstPlace (hasTid tid) (s .tasks)) where
-  pub tid-found : (d : TaskControlBlock) {b : Bool} → k < 64 → b ≡ hasTid tid (getD (s .tasks) k d) → b ≡ true → slot.Some (record { 0 = k }) ≡ taskIndexForTid tid (abs s)
+  pub tid-found : (d : TaskControlBlock) {b : Bool} → k < 64 → b ≡ hasTid tid (getD (s .tasks) k d) → b ≡ true →
+      slot.Some (record { 0 = k }) ≡ taskIndexForTid tid (abs s)
   unfolding taskIndexForTid abs
   tid-found d low b-is passes =
       let found : firstPlace (hasTid tid) (s .tasks) ≡ k = search-found (hasTid tid) (s .tasks) k d so-far (omega (arith, slots s v)) (sym b-is ∙ passes) in
@@ -126,5 +127,6 @@ module _ (previous next : SlotOption) (cr3 : ℕ) {b : Bool} (b-is : b ≡ same 
   pub plan-none : b ≡ true → value.Plan plan.None ≡ whoRuns form.Plan previous next cr3
   plan-none equal = rw (sym b-is ∙ equal) refl
 
-  pub plan-other : {t : ContextSwitchTarget} {x : Value} → b ≡ false → t ≡ targetWith next cr3 → x ≡ switchTo previous t → x ≡ whoRuns form.Plan previous next cr3
+  pub plan-other : {t : ContextSwitchTarget} {x : Value} → b ≡ false → t ≡ targetWith next cr3 → x ≡ switchTo previous t →
+      x ≡ whoRuns form.Plan previous next cr3
   plan-other other t-is x-is = x-is ∙ rw (sym b-is ∙ other) (ap (switchTo previous) t-is)

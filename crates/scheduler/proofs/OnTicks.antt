@@ -87,7 +87,8 @@ module _ {s : QoSScheduler} (v : Valid s) (core elapsed : ℕ) where
 
   pub tick-past : (f : Form) {r : Reply} {x : Value} → 64 ≤ core → x ≡ whoRuns f slot.None slot.None 0 → r ≡ toldBy s x → Ticks f s core elapsed r
   tick-past f past x-is is = gives-as f (sym (none-held past)) refl (subst (Gives (answerIn f slot.None (ticked core elapsed (abs s)))) (sym is)
-      (gives-chosen f slot.None (noChoice (abs s)) 0 (ticked-past past) (ticked-accepted core elapsed (v .accepted)) tt (as-found v) (ap (answered pick.None) x-is)))
+      (gives-chosen f slot.None (noChoice (abs s)) 0 (ticked-past past) (ticked-accepted core elapsed (v .accepted)) tt (as-found v)
+      (ap (answered pick.None) x-is)))
 
   -- told as a plan the tick is plan
   pub plan-told : {r : Reply} → Ticks form.Plan s core elapsed r → Meets (Plan core elapsed) s r
@@ -137,12 +138,16 @@ module _ {s : QoSScheduler} (v : Valid s) {core micros : ℕ} (elapsed : ℕ) (l
       read-is : read ≡ task (abs s) (h .0)
       read-is = record-at s v (h .0) dt (holder-below v low d read-holder some)
 
+      there : h .0 < length (abs s .tasks)
+      there = omega (arith, holder-below v low d read-holder some, v .accepted .slots)
+
       -- the holder is Blocked: the core lets go of it
       pub tick-blocked : (f : Form) {r : Reply} → isState (read .state) Blocked ≡ true → Picks f (slot.Some h) (let-go later core) r → Ticks f s core elapsed r
       unfolding ticked
       tick-blocked f so g =
           let cleared-is : abs (let-go later core) ≡ cleared core now = put-holder later-holds core noneByte .state-is in
-          comes-from f (let-go later core) some (rw (lt-leb 64 core low) (rw (held v low d read-holder ∙ some) (rw (sym read-is) (rw so (rw cleared-is refl))))) g
+          comes-from f (let-go later core) some
+          (rw (lt-leb 64 core low) (rw (held v low d read-holder ∙ some) (rw (sym read-is) (rw so (rw cleared-is refl))))) g
 
       module _ (so : isState (read .state) Blocked ≡ false) where
         awake : isState (task (abs s) (h .0) .state) Blocked ≡ false
@@ -179,7 +184,6 @@ module _ {s : QoSScheduler} (v : Valid s) {core micros : ℕ} (elapsed : ℕ) (l
             Ticks f s core elapsed (record { answer = a; state = putTask later (h .0) u })
         unfolding abs
         tick-stays f short nobody u-is x-is a-is =
-            let there : h .0 < length (s .tasks) = omega (arith, holder-below v low d read-holder some, v .accepted .slots) in
             let stored : task (staysHolder h elapsed now .state) (h .0) ≡ charge (task (abs s) (h .0)) =
             getD-set-same (s .tasks) (h .0) (charge (task (abs s) (h .0))) emptyRecord there in
             gives-as f (sym (held v low d read-holder ∙ some)) refl (gives-chosen f (slot.Some h) (staysHolder h elapsed now) (read .cr3)
@@ -194,9 +198,6 @@ module _ {s : QoSScheduler} (v : Valid s) {core micros : ℕ} (elapsed : ℕ) (l
 
           ends : Harmless (λ (x : ℕ). ⊥) now (outOfSlice (h .0) now) × (requeued (h .0) now ≡ outOfSlice (h .0) now)
           ends = slice-ends now (gone-by .invariant) (h .0) (holder-may v low d read-holder some .used)
-
-          there : h .0 < length (abs s .tasks)
-          there = omega (arith, holder-below v low d read-holder some, v .accepted .slots)
 
           -- a scheduler that holds what is left at the end of the slice
           ended-valid : {m : QoSScheduler} → HoldsState m (outOfSlice (h .0) now) → Valid m

@@ -91,7 +91,8 @@ module _ {s : QoSScheduler} {now : State} (k : HoldsState s now) where
 
 -- a slot goes to the tail of its band, and its record, which was read as t, is changed by f
 module _ {s : QoSScheduler} {now : State} (k : HoldsState s now) (slot : Slot) {t : TaskControlBlock} (t-is : t ≡ task now (slot .0))
-    {n : ℕ} (code : IsBandCode (t .qos) n) (dq : BandQueue) {p : Pushed} (push : Push (getD (s .queues) n dq) slot p) (f : TaskControlBlock → TaskControlBlock) where
+    {n : ℕ} (code : IsBandCode (t .qos) n) (dq : BandQueue) {p : Pushed} (push : Push (getD (s .queues) n dq) slot p)
+    (f : TaskControlBlock → TaskControlBlock) where
   abbrev tailed : TaskControlBlock → State
   tailed r = withTask (withQueue now (r .qos) (pushed (slot .0) (queue now (r .qos)))) (slot .0) (f r)
 
