@@ -34,7 +34,7 @@ use Rattle.rules.specs.Outcome.{Chosen, answered}
 use Rattle.rules.specs.Picking.{permitted, placeFor, leaves, choice, afterPick, ruleP, answerSlot, schedule}
 use Rattle.rules.specs.Ticking.{waitsBefore}
 use Rattle.scheduler.specs.Scheduler.{abs, Valid, Meets}
-use Rattle.scheduler.specs.Private.{Gives, answerIn, whoRuns, toldBy}
+use Rattle.scheduler.specs.Private.{Gives, answerIn, pickAnswer, whoRuns, toldBy}
 use Rattle.rules.proofs.Calls.{call-accepted}
 use Rattle.rules.proofs.Invariant.{ready-in-table}
 use Rattle.rules.proofs.Picks.{P-past, P-below}
@@ -93,15 +93,14 @@ module _ {s : QoSScheduler} (v : Valid s) {core band place : ℕ} (k : Seeking (
           (before (abs s) core k b is e (sym entry-is ∙ some) (may ∙ passes)))
 
       -- the entry leaves, and runs on the core
-      pub pick-found : (f : Form) (previous : SlotOption) {a : Answer} {u : TaskControlBlock} {taken : Taken} {x : Value} → core < 64 → t ≡ true →
+      pub pick-found : (f : Form) (previous : SlotOption) {a : Answer} {u : TaskControlBlock} {taken : Taken} → core < 64 → t ≡ true →
           Take (getD (s .queues) band dq) place taken →
           u ≡ picked (getD (s .tasks) (e .0) d) →
-          x ≡ whoRuns f previous (slot.Some e) (getD (s .tasks) (e .0) d .cr3) →
-          a ≡ answered (pick.Some (record { slot = e; band = getD (s .tasks) (e .0) d .qos })) x →
+          a ≡ pickAnswer f previous e (getD (s .tasks) (e .0) d) →
           Gives (answerIn f previous (ruleP core (abs s)))
           (record { answer = a; state = putHolder (putTask (putQueue s band (taken .queue)) (e .0) u) core (e .0) })
       unfolding abs
-      pick-found f previous {a} {u} {taken} below passes take u-is x-is a-is =
+      pick-found f previous {a} {u} {taken} below passes take u-is a-is =
           let first : choice (abs s) core bandOrder ≡ pick.Some (record { slot = e; band = b }) =
           chosen (abs s) core k b is e (sym entry-is ∙ some) (may ∙ passes) in
           let read-so : getD (s .tasks) (e .0) d ≡ task (abs s) (e .0) = record-at s v (e .0) d entry-low in
@@ -115,7 +114,7 @@ module _ {s : QoSScheduler} (v : Valid s) {core band place : ℕ} (k : Seeking (
           gives-chosen f previous runs (getD (s .tasks) (e .0) d .cr3) comes (P-accepted core (v .accepted))
           (ap (λ (r : TaskControlBlock). r .cr3) read-so ∙ ap (λ (r : TaskControlBlock). r .cr3) (sym stored))
           (put-holder (put-task left (e .0) (u-is ∙ ap picked read-so)) core (e .0))
-          (a-is ∙ (λ i. answered (pick.Some (record { slot = e; band = of-band i })) (x-is i)))
+          (a-is ∙ (λ i. answered (pick.Some (record { slot = e; band = of-band i })) (whoRuns f previous (slot.Some e) (getD (s .tasks) (e .0) d .cr3))))
 
 -- nobody may use the core
 module _ {s : QoSScheduler} (v : Valid s) {core : ℕ} where

@@ -52,15 +52,15 @@ element-set-from-self c = element-copy-out-task (c .before .before .before .befo
 
 returns : tie.Need-returns Inv-loop μ-loop
 returns c =
-    let at-entry = c .before .before .before .before .before .before .before .before .before in
+    let at-entry = c .before .before .before .before .before .before .before .before in
     let at-loop = at-entry .before .before .before .before .before in
     let inv = at-loop .loop .inv in
     let start = at-loop .before in
     gives-as (start .args .form) refl (ap (λ (s : QoSScheduler). ruleP (start .args .core) (abs s)) (inv .0)) (pick-found (inv .1 .0) (inv .1 .1)
     (at-entry .before .before .before .before .loop-test .taken) _
-    (at-entry .before .before .entry-at .ensures) _ (at-entry .entry .given .1) _ (c .before .before .before .before .before .before .mask-permits .ensures)
-    (start .args .form) (start .args .previous) (start .pre .1) (c .before .before .before .before .before .if1 .taken)
-    (c .before .before .before .before .take-at .ensures) (c .before .before .picked .ensures) (c .before .who-runs .ensures) (c .done .ensures))
+    (at-entry .before .before .entry-at .ensures) _ (at-entry .entry .given .1) _ (c .before .before .before .before .before .mask-permits .ensures)
+    (start .args .form) (start .args .previous) (start .pre .1) (c .before .before .before .before .if1 .taken)
+    (c .before .before .before .take-at .ensures) (c .before .picked .ensures) (c .pick-answer .ensures))
 
 loop-less-2 : tie.Need-loop-less-2 Inv-loop μ-loop
 loop-less-2 c =
@@ -92,7 +92,7 @@ returns-2 c =
     let start = at-loop .before in
     gives-as (start .args .form) refl (ap (λ (s : QoSScheduler). ruleP (start .args .core) (abs s)) (inv .0))
     (pick-none (inv .1 .0) (start .args .form) (start .args .previous) (start .pre .1) (inv .1 .1) (c .before .before .loop-test .left)
-    (c .before .who-runs2 .ensures) (c .done2 .ensures))
+    (c .before .who-runs .ensures) (c .done .ensures))
 
 pub pick-spec : {M : Type 1} → statement M
 pick-spec =
@@ -120,7 +120,6 @@ pick-spec =
     element-set-from-self
     (λ c. omega (arith, element-set-from-self c))
     (λ c. search needs)
-    (λ c κs. search needs)
     (λ c κs. search needs)
     returns
     (λ c. omega (arith, loop-less-2 c))

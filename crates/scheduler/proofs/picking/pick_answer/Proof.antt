@@ -1,0 +1,12 @@
+-- `pick_answer` meets its contract: its value is what `who_runs` makes of the slot. Assumes nothing.
+use mathlib.Core.Path.{ap, _∙_}
+use borrow.Author.Needs.{needs}
+use Rattle.rules.specs.Outcome.{answered}
+use Rattle.scheduler.proofs.picking.pick_answer.Statement.{statement}
+use Rattle.scheduler.proofs.picking.pick_answer.Tie as tie
+
+returns : tie.Need-returns
+returns c = c .done .ensures ∙ ap (answered _) (c .before .who-runs .ensures)
+
+pub pick-answer-spec : {M : Type 1} → statement M
+pick-answer-spec = tie.close (tie.spec (λ c κs. search needs) (λ c κs. search needs) returns)
