@@ -22,7 +22,6 @@ use Rattle.queue.specs.Stored.{entries}
 use Rattle.queue.proofs.Entries.{entryAt-some}
 use Rattle.rules.specs.declared.answer.Answer.{Answer}
 use Rattle.rules.specs.declared.answer.PickOption.the-variants as pick
-use Rattle.rules.specs.declared.answer.Value.{Value}
 use Rattle.rules.specs.declared.answer.Value.the-variants as value
 use Rattle.rules.specs.declared.call.Call.the-variants.{Schedule}
 use Rattle.scheduler.specs.declared.picking.Form.{Form}
@@ -118,14 +117,14 @@ module _ {s : QoSScheduler} (v : Valid s) {core band place : ℕ} (k : Seeking (
 
 -- nobody may use the core
 module _ {s : QoSScheduler} (v : Valid s) {core : ℕ} where
-  pub pick-none : (f : Form) (previous : SlotOption) {band place : ℕ} {a : Answer} {x : Value} → core < 64 → Seeking (abs s) core band place → 3 ≤ band →
-      x ≡ whoRuns f previous slot.None 0 → a ≡ answered pick.None x →
+  pub pick-none : (f : Form) (previous : SlotOption) {band place : ℕ} {a : Answer} → core < 64 → Seeking (abs s) core band place → 3 ≤ band →
+      a ≡ answered pick.None (whoRuns f previous slot.None 0) →
       Gives (answerIn f previous (ruleP core (abs s))) (record { answer = a; state = putHolder s core noneByte })
   unfolding abs
-  pick-none f previous below k past x-is a-is =
+  pick-none f previous below k past a-is =
       gives-chosen f previous (afterPick (abs s) core pick.None) 0
       (P-below (abs s) core below ∙ ap (afterPick (abs s) core) (none-chosen (abs s) core k past)) (P-accepted core (v .accepted))
-      tt (put-holder (as-found v) core noneByte) (a-is ∙ ap (answered pick.None) x-is)
+      tt (put-holder (as-found v) core noneByte) a-is
 
   -- ---- schedule
 

@@ -177,19 +177,18 @@ module _ {s : QoSScheduler} (v : Valid s) {core micros : ℕ} (elapsed : ℕ) (l
         charge t = withConsumed t (t .«consumed_slice_us» + elapsed)
 
         -- the slice goes on
-        pub tick-stays : (f : Form) {a : Answer} {u : TaskControlBlock} {x : Value} → read .«consumed_slice_us» + elapsed < read .«slice_budget_us» →
+        pub tick-stays : (f : Form) {a : Answer} {u : TaskControlBlock} → read .«consumed_slice_us» + elapsed < read .«slice_budget_us» →
             waitsBefore (read .qos) (abs later) core ≡ false → u ≡ charge read →
-            x ≡ whoRuns f (slot.Some h) (slot.Some h) (read .cr3) →
-            a ≡ answered pick.None x →
+            a ≡ answered pick.None (whoRuns f (slot.Some h) (slot.Some h) (read .cr3)) →
             Ticks f s core elapsed (record { answer = a; state = putTask later (h .0) u })
         unfolding abs
-        tick-stays f short nobody u-is x-is a-is =
+        tick-stays f short nobody u-is a-is =
             let stored : task (staysHolder h elapsed now .state) (h .0) ≡ charge (task (abs s) (h .0)) =
             getD-set-same (s .tasks) (h .0) (charge (task (abs s) (h .0))) emptyRecord there in
             gives-as f (sym (held v low d read-holder ∙ some)) refl (gives-chosen f (slot.Some h) (staysHolder h elapsed now) (read .cr3)
             (comes-to false (goes-on short nobody)) (ticked-accepted core elapsed (v .accepted))
             (ap (λ (t : TaskControlBlock). t .cr3) read-is ∙ ap (λ (t : TaskControlBlock). t .cr3) (sym stored))
-            (put-task later-holds (h .0) (u-is ∙ ap charge read-is)) (a-is ∙ ap (answered pick.None) x-is))
+            (put-task later-holds (h .0) (u-is ∙ ap charge read-is)) a-is)
 
         -- the slice is over: an earlier band's entry waits, or the budget is reached
         module _ (why : (waitsBefore (read .qos) (abs later) core ≡ true) ⊎ (read .«slice_budget_us» ≤ read .«consumed_slice_us» + elapsed)) where

@@ -2,6 +2,7 @@
 // plan to switch.
 ghost use mathlib.Core.Path.{_≡_};
 ghost use Prim.Native.Nat.{_<_};
+ghost use Rattle.rules.specs.Outcome.{answered};
 ghost use Rattle.rules.specs.Picking.{ruleP};
 ghost use Rattle.scheduler.specs.Scheduler.{Valid, Meets, abs};
 ghost use Rattle.scheduler.specs.Private.{Gives, answerIn, pickAnswer, whoRuns, switchTo};
@@ -90,9 +91,8 @@ impl QoSScheduler {
             }
         }
         self.current[core] = NO_HOLDER;
-        let value = who_runs(form, previous, SlotOption::None, 0);
         Reply {
-            answer: done(PickOption::None, value),
+            answer: choice_answer(PickOption::None, form, previous, SlotOption::None, 0),
             state: self,
         }
     }
@@ -104,10 +104,20 @@ fn pick_answer(form: Form, previous: SlotOption, slot: Slot, task: TaskControlBl
 {
     let qos = task.qos;
     let pick = PickOption::Some(Pick { slot, band: qos });
-    done(
-        pick,
-        who_runs(form, previous, SlotOption::Some(slot), task.cr3),
-    )
+    choice_answer(pick, form, previous, SlotOption::Some(slot), task.cr3)
+}
+
+// The answer to a choice: the pick that led there, if any, and who is to run.
+pub(crate) fn choice_answer(
+    pick: PickOption,
+    form: Form,
+    previous: SlotOption,
+    next: SlotOption,
+    cr3: u64,
+) -> Answer
+    ensures { λ r. ⌜ r ≡ answered pick (whoRuns form previous next cr3) ⌝ }
+{
+    done(pick, who_runs(form, previous, next, cr3))
 }
 
 // Who is to run on a core, as an answer's value: as a slot, or as a plan from the previous holder. `cr3` is of the task that

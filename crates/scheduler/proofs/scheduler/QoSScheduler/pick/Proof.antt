@@ -87,12 +87,12 @@ loop-again-2 c =
 
 returns-2 : tie.Need-returns-2 Inv-loop μ-loop
 returns-2 c =
-    let at-loop = c .before .before .before in
+    let at-loop = c .before .before in
     let inv = at-loop .loop .inv in
     let start = at-loop .before in
     gives-as (start .args .form) refl (ap (λ (s : QoSScheduler). ruleP (start .args .core) (abs s)) (inv .0))
-    (pick-none (inv .1 .0) (start .args .form) (start .args .previous) (start .pre .1) (inv .1 .1) (c .before .before .loop-test .left)
-    (c .before .who-runs .ensures) (c .done .ensures))
+    (pick-none (inv .1 .0) (start .args .form) (start .args .previous) (start .pre .1) (inv .1 .1) (c .before .loop-test .left)
+    (c .choice-answer .ensures))
 
 pub pick-spec : {M : Type 1} → statement M
 pick-spec =
@@ -126,6 +126,5 @@ pick-spec =
     loop-less-2
     loop-again-2
     (λ c. search needs)
-    (λ c κs. search needs)
     (λ c κs. search needs)
     returns-2)

@@ -64,14 +64,14 @@ element-set-from-self c = element-copy-out-task (c .before .before .before .befo
 
 returns-4 : tie.Need-returns-4
 returns-4 c =
-    let at-if2 = c .before .before .before .before .before .before .before .before in
+    let at-if2 = c .before .before .before .before .before .before .before in
     let at-if1 = at-if2 .before .before .before .before .before .before .before .before in
     let start = at-if1 .before .before in
     tick-stays (start .pre) _ (at-if1 .if1 .left) (at-if1 .before .wrapping-add-u64 .ensures) _
     (at-if2 .before .before .before .before .before .before .holder-of .ensures) _ (at-if2 .before .before .before .before .previous .given .1) _
-    (sym (at-if2 .before .is .ensures) ∙ at-if2 .if2 .left) (start .args .form) (c .before .before .before .before .before .if3 .taken)
-    (sym (c .before .before .before .before .waits-before .ensures) ∙ not-true _ (c .before .before .before .if4 .taken))
-    (c .before .before .with-consumed .ensures) (c .before .who-runs2 .ensures) (c .done .ensures)
+    (sym (at-if2 .before .is .ensures) ∙ at-if2 .if2 .left) (start .args .form) (c .before .before .before .before .if3 .taken)
+    (sym (c .before .before .before .waits-before .ensures) ∙ not-true _ (c .before .before .if4 .taken))
+    (c .before .with-consumed .ensures) (c .choice-answer .ensures)
 
 element-set-from-self-2 : tie.Need-element-set-from-self-2
 element-set-from-self-2 c = element-copy-out-task (c .before .before .before .before .before .before .before .before .before)
@@ -167,7 +167,6 @@ ticked-spec =
     (λ c κs. search needs)
     (λ c. omega (arith, element-set-from-self c))
     element-set-from-self
-    (λ c κs. search needs)
     (λ c κs. search needs)
     returns-4
     (λ c κs. search needs)
