@@ -7,26 +7,27 @@ use Prim.Native.Nat.{ℕ}
 use Rattle.records.specs.declared.band.QoSClass.{QoSClass}
 use Rattle.records.specs.declared.band.QoSClass.the-variants.{UserInteractive, RealTimeIO, Background}
 use Rattle.queue.specs.declared.BandQueue.{BandQueue}
-use Rattle.queue.specs.Stored.{entries, WellFormed, Holds}
+use Rattle.queue.specs.Stored.{Holds}
 use Rattle.queue.proofs.Stored as ring
 use Rattle.rules.specs.declared.answer.Answer.{Answer}
 use Rattle.rules.specs.declared.call.Call.{Call}
 use Rattle.scheduler.specs.declared.scheduler.QoSScheduler.{QoSScheduler}
 use Rattle.scheduler.specs.declared.scheduler.Reply.{Reply}
 use Rattle.rules.specs.State.{State, newState, queue}
-use Rattle.records.specs.Lists.{Each}
 use Rattle.rules.specs.Accepted.{Accepted}
 use Rattle.rules.specs.Step.{step, run}
 use Rattle.rules.specs.Took.{Carries}
 use Rattle.rules.specs.Stretch.{Event, events, breaks, picks}
 use Rattle.rules.specs.Waiting.{Point}
 use Rattle.rules.specs.Longest.{Longest}
-use Rattle.scheduler.specs.Scheduler.{queuesOf, abs, Valid, IsNew, Meets, MeetsLent}
+use Rattle.scheduler.specs.Scheduler.{abs, Valid, IsNew, Meets, MeetsLent}
 use Rattle.claims.specs.History.{Made, History, MadeEither, byValue, lent, Mixed, madeOf, left, callsOf, answersOf}
 use Rattle.claims.specs.History.{happened, stretchIn, outcomeOf, CodePoint, CodeClaim}
 use Rattle.rules.proofs.Calls.{new-accepted, call-accepted}
 use Rattle.rules.proofs.Stretches.{longest}
 use Rattle.rules.proofs.Waiting.{rules-demand3}
+use Rattle.scheduler.proofs.Arrays.{three-hold}
+use Rattle.scheduler.proofs.Puts.{storedAs, HoldsState, stored-as, holds-valid}
 
 -- ---- what a history leaves, and where it is cut
 
@@ -152,38 +153,14 @@ module _ (t : State) (a : Accepted t) where
   band-stored : (band : QoSClass) → (q : BandQueue) × Holds q (queue t band)
   band-stored band = ring.stored (queue t band) (a .lengths band)
 
-  well-formed : (band : QoSClass) → WellFormed (band-stored band .0)
-  well-formed band = band-stored band .1 .well-formed
-
-  entries-are : (band : QoSClass) → entries (band-stored band .0) ≡ queue t band
-  entries-are band = band-stored band .1 .entries-are
-
   abbrev storing : QoSScheduler
-  storing = record {
-    tasks = t .tasks;
-    queues = band-stored UserInteractive .0 ∷ band-stored RealTimeIO .0 ∷ band-stored Background .0 ∷ [];
-    current = t .holders;
-    «system_ticks_us» = t .micros;
-  }
+  storing = storedAs t (band-stored UserInteractive .0 ∷ band-stored RealTimeIO .0 ∷ band-stored Background .0 ∷ [])
 
-  storing-is : abs storing ≡ t
-  unfolding abs queuesOf
-  storing-is = λ i. record {
-    tasks = t .tasks;
-    queues = record { interactive = entries-are UserInteractive i; realTime = entries-are RealTimeIO i; background = entries-are Background i };
-    holders = t .holders;
-    micros = t .micros;
-  }
-
-  storing-valid : Valid storing
-  unfolding Each
-  storing-valid = record {
-    whole = record { bands = refl; rings = (well-formed UserInteractive, (well-formed RealTimeIO, (well-formed Background, tt))) };
-    accepted = subst Accepted (sym storing-is) a;
-  }
+  storing-holds : HoldsState storing t
+  storing-holds = stored-as t (three-hold (band-stored UserInteractive .1) (band-stored RealTimeIO .1) (band-stored Background .1))
 
   pub stored : (s : QoSScheduler) × (Valid s × (abs s ≡ t))
-  stored = (storing, (storing-valid, storing-is))
+  stored = (storing, (holds-valid storing-holds a, storing-holds .state-is))
 
 pub a-new-one : (s : QoSScheduler) × IsNew s
 a-new-one =

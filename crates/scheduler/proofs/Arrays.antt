@@ -1,4 +1,4 @@
--- The stored scheduler: its arrays read as lists, and what it holds once a part is replaced. Assumes nothing.
+-- The stored scheduler's arrays read as lists, and three queues with one of them replaced. Assumes nothing.
 use mathlib.Core.Path.{_≡_, refl, sym, ap, _∙_, subst}
 use mathlib.Core.List.{List, [], _∷_}
 use Prim.Native.Nat.{ℕ, zero, suc, _<_}
@@ -7,17 +7,13 @@ use native.Mathlib.Omega.{arith}
 use lib.ListN.{length, getD, set}
 use Rattle.records.specs.declared.band.QoSClass.{QoSClass}
 use Rattle.records.specs.declared.band.QoSClass.the-variants.{UserInteractive, RealTimeIO, Background}
-use Rattle.records.specs.declared.ids.Slot.{Slot}
 use Rattle.records.specs.declared.task.TaskControlBlock.{TaskControlBlock}
 use Rattle.records.specs.Band.{bandCode}
 use Rattle.records.specs.Lists.{Each}
 use Rattle.queue.specs.declared.BandQueue.{BandQueue}
-use Rattle.queue.specs.declared.Pushed.{Pushed}
-use Rattle.queue.specs.Contracts.{Push}
-use Rattle.queue.specs.Entries.{pushed}
 use Rattle.queue.specs.Stored.{entries, WellFormed, Holds}
 use Rattle.scheduler.specs.declared.scheduler.QoSScheduler.{QoSScheduler}
-use Rattle.rules.specs.State.{task, ofBand, withBand, queue, holder}
+use Rattle.rules.specs.State.{Queues, task, ofBand, withBand, queue, holder}
 use Rattle.scheduler.specs.Scheduler.{queuesOf, abs, Whole, Valid, HoldQueues}
 
 -- ---- reading
@@ -61,6 +57,14 @@ band-at (suc zero) low = (RealTimeIO, refl)
 band-at (suc (suc zero)) low = (Background, refl)
 band-at (suc (suc (suc n))) low = absurd (omega arith)
 
+-- a queue for each band
+pub three-hold : {q : Queues} {a b c : BandQueue} → Holds a (q .interactive) → Holds b (q .realTime) → Holds c (q .background) → HoldQueues (a ∷ b ∷ c ∷ []) q
+unfolding queuesOf Each
+three-hold a b c = record {
+  whole = record { bands = refl; rings = (a .well-formed, (b .well-formed, (c .well-formed, tt))) };
+  entries-are = λ i. record { interactive = a .entries-are i; realTime = b .entries-are i; background = c .entries-are i };
+}
+
 module _ (qs : List BandQueue) (w : Whole qs) (b : QoSClass) where
   pub ring-of : (d : BandQueue) → WellFormed (getD qs (bandCode b) d)
   unfolding Each
@@ -83,22 +87,17 @@ module _ (qs : List BandQueue) (w : Whole qs) (b : QoSClass) where
   put-queue : (q : BandQueue) (es : List ℕ) → Holds q es → HoldQueues (set qs (bandCode b) q) (withBand (queuesOf qs) b es)
   unfolding queuesOf Each
   put-queue q es h =
-      three (λ (l : List BandQueue). Each WellFormed l → HoldQueues (set l (bandCode b) q) (withBand (queuesOf l) b es)) (λ x y z. by-band x y z b) qs (w .bands) (w .rings)
+      three (λ (l : List BandQueue). Each WellFormed l → HoldQueues (set l (bandCode b) q) (withBand (queuesOf l) b es)) (λ x y z. by-band x y z b)
+      qs (w .bands) (w .rings)
     where
+      as-it-is : {x : BandQueue} → WellFormed x → Holds x (entries x)
+      as-it-is w = record { well-formed = w; entries-are = refl }
+
       by-band : (x y z : BandQueue) (b : QoSClass) → Each WellFormed (x ∷ y ∷ z ∷ []) →
           HoldQueues (set (x ∷ y ∷ z ∷ []) (bandCode b) q) (withBand (queuesOf (x ∷ y ∷ z ∷ [])) b es)
-      by-band x y z UserInteractive r = record {
-        whole = record { bands = refl; rings = (h .well-formed, r .1) };
-        entries-are = λ i. record { interactive = h .entries-are i; realTime = entries y; background = entries z };
-      }
-      by-band x y z RealTimeIO r = record {
-        whole = record { bands = refl; rings = (r .0, (h .well-formed, r .1 .1)) };
-        entries-are = λ i. record { interactive = entries x; realTime = h .entries-are i; background = entries z };
-      }
-      by-band x y z Background r = record {
-        whole = record { bands = refl; rings = (r .0, (r .1 .0, (h .well-formed, tt))) };
-        entries-are = λ i. record { interactive = entries x; realTime = entries y; background = h .entries-are i };
-      }
+      by-band x y z UserInteractive r = three-hold h (as-it-is (r .1 .0)) (as-it-is (r .1 .1 .0))
+      by-band x y z RealTimeIO r = three-hold (as-it-is (r .0)) h (as-it-is (r .1 .1 .0))
+      by-band x y z Background r = three-hold (as-it-is (r .0)) (as-it-is (r .1 .0)) h
 
 -- the same at a place that is the band's code
 module _ (qs : List BandQueue) (w : Whole qs) (b : QoSClass) {n : ℕ} (is : n ≡ bandCode b) where
@@ -111,23 +110,16 @@ module _ (qs : List BandQueue) (w : Whole qs) (b : QoSClass) {n : ℕ} (is : n �
   pub queue-put : {q : BandQueue} {es : List ℕ} → Holds q es → HoldQueues (set qs n q) (withBand (queuesOf qs) b es)
   queue-put {q} {es} h = subst (λ (k : ℕ). HoldQueues (set qs k q) (withBand (queuesOf qs) b es)) (sym is) (put-queue qs w b q es h)
 
+  -- changed by f
+  pub queue-changed : (d : BandQueue) (f : List ℕ → List ℕ) {q : BandQueue} → Holds q (f (entries (getD qs n d))) →
+      HoldQueues (set qs n q) (withBand (queuesOf qs) b (f (ofBand (queuesOf qs) b)))
+  queue-changed d f {q} h = queue-put (subst (λ (l : List ℕ). Holds q (f l)) (entries-at d) h)
+
 -- at any place among the three
 pub ring-below : (qs : List BandQueue) → Whole qs → (n : ℕ) (d : BandQueue) → n < 3 → WellFormed (getD qs n d)
 ring-below qs w n d low = let b : (b : QoSClass) × (n ≡ bandCode b) = band-at n low in ring-at qs w (b .0) (b .1) d
 
--- ---- a band's queue in a valid scheduler
-
-module _ {s : QoSScheduler} (v : Valid s) (b : QoSClass) {n : ℕ} (is : n ≡ bandCode b) (dq : BandQueue) where
-  pub queue-at : entries (getD (s .queues) n dq) ≡ queue (abs s) b
-  unfolding abs
-  queue-at = entries-at (s .queues) (v .whole) b is dq
-
-  -- another queue put in its place
-  pub queue-back : {q : BandQueue} {es : List ℕ} → Holds q es → HoldQueues (set (s .queues) n q) (withBand (queuesOf (s .queues)) b es)
-  queue-back = queue-put (s .queues) (v .whole) b is
-
-  -- the same queue, with a slot pushed
-  pub pushed-back : {slot : Slot} {p : Pushed} → Push (getD (s .queues) n dq) slot p →
-      HoldQueues (set (s .queues) n (p .queue)) (withBand (queuesOf (s .queues)) b (pushed (slot .0) (queue (abs s) b)))
-  pushed-back {slot} {p} push = queue-back
-      (subst (λ (l : List ℕ). Holds (p .queue) (pushed (slot .0) l)) queue-at (push .queue-is))
+-- in a valid scheduler
+pub queue-at : {s : QoSScheduler} → Valid s → (b : QoSClass) {n : ℕ} → n ≡ bandCode b → (d : BandQueue) → entries (getD (s .queues) n d) ≡ queue (abs s) b
+unfolding abs
+queue-at {s} v b is d = entries-at (s .queues) (v .whole) b is d

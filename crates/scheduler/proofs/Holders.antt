@@ -1,19 +1,19 @@
 -- A core's holder as the code reads it, and a core that lets go of its holder. Assumes nothing.
-use mathlib.Core.Path.{_≡_, refl, sym, ap, _∙_, subst}
+use mathlib.Core.Path.{_≡_, sym, ap, _∙_}
 use Prim.Native.Nat.{ℕ, _<_}
-use lib.ListN.{getD, set}
+use lib.ListN.{getD}
 use Rattle.records.specs.declared.ids.Slot.{Slot}
 use Rattle.records.specs.declared.ids.SlotOption.{SlotOption}
 use Rattle.records.specs.declared.ids.SlotOption.the-variants as slot
 use Rattle.scheduler.specs.declared.scheduler.QoSScheduler.{QoSScheduler}
 use Rattle.rules.specs.State.{State, noneByte, task, holderIn, holderOf}
 use Rattle.rules.specs.Accepted.{Accepted, MayHold}
-use Rattle.rules.specs.Ticking.{cleared}
 use Rattle.scheduler.specs.Scheduler.{abs, Valid}
 use Rattle.rules.proofs.Effects.{holder-is, clears}
 use Rattle.rules.proofs.Invariant.{Invariant, accepted-invariant, invariant-accepted, used-in-table}
 use Rattle.rules.proofs.Moves.{Harmless}
 use Rattle.scheduler.proofs.Arrays.{holder-at}
+use Rattle.scheduler.proofs.Puts.{putHolder, as-found, holds-valid, put-holder}
 
 -- what a change that harms nobody leaves is accepted
 pub harmless-accepted : {s t : State} → Harmless (λ (x : ℕ). ⊥) s t → Accepted t
@@ -36,14 +36,7 @@ module _ {s : QoSScheduler} (v : Valid s) {core : ℕ} (low : core < 64) (d : �
 
 -- the core has no holder
 abbrev pub let-go : QoSScheduler → ℕ → QoSScheduler
-let-go s core = record { tasks = s .tasks; queues = s .queues; current = set (s .current) core noneByte; «system_ticks_us» = s .«system_ticks_us» }
-
-pub let-go-is : (s : QoSScheduler) (core : ℕ) → abs (let-go s core) ≡ cleared core (abs s)
-unfolding abs
-let-go-is s core = refl
+let-go s core = putHolder s core noneByte
 
 pub let-go-valid : {s : QoSScheduler} → Valid s → {core : ℕ} → core < 64 → Valid (let-go s core)
-let-go-valid {s} v {core} low = record {
-  whole = v .whole;
-  accepted = subst Accepted (sym (let-go-is s core)) (harmless-accepted (clears (abs s) (known v) core low));
-}
+let-go-valid {s} v {core} low = holds-valid (put-holder (as-found v) core noneByte) (harmless-accepted (clears (abs s) (known v) core low))

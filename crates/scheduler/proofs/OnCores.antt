@@ -2,10 +2,9 @@
 -- Assumes nothing.
 use mathlib.Core.Path.{_≡_, refl, sym, ap, _∙_, subst}
 use mathlib.Core.Bool.{Bool, true, false}
-use mathlib.Core.List.{List}
 use Prim.Native.Nat.{ℕ, _+_, _≤_, _<_}
 use native.Mathlib.Omega.{arith}
-use lib.ListN.{length, getD, set}
+use lib.ListN.{length, getD}
 use lib.Seq.{getD-set-same}
 use Rattle.records.specs.declared.band.QoSClass.{QoSClass}
 use Rattle.records.specs.declared.ids.Slot.{Slot}
@@ -19,29 +18,30 @@ use Rattle.queue.specs.declared.BandQueue.{BandQueue}
 use Rattle.queue.specs.declared.Taken.{Taken}
 use Rattle.queue.specs.Contracts.{Take}
 use Rattle.queue.specs.Entries.{entryAt, takenAt}
-use Rattle.queue.specs.Stored.{entries, Holds}
+use Rattle.queue.specs.Stored.{entries}
 use Rattle.queue.proofs.Entries.{entryAt-some}
 use Rattle.rules.specs.declared.answer.Answer.{Answer}
 use Rattle.rules.specs.declared.answer.PickOption.the-variants as pick
-use Rattle.rules.specs.declared.answer.Value.{Value}
 use Rattle.rules.specs.declared.answer.Value.the-variants as value
 use Rattle.rules.specs.declared.call.Call.the-variants.{Schedule}
 use Rattle.scheduler.specs.declared.picking.Form.{Form}
 use Rattle.scheduler.specs.declared.scheduler.QoSScheduler.{QoSScheduler}
 use Rattle.scheduler.specs.declared.scheduler.Reply.{Reply}
-use Rattle.rules.specs.State.{State, noneByte, bandOrder, task, queue, withBand}
+use Rattle.rules.specs.State.{State, noneByte, bandOrder, task, queue}
 use Rattle.rules.specs.Accepted.{Accepted, ReadyOf}
 use Rattle.rules.specs.Outcome.{Chosen, answered}
-use Rattle.rules.specs.Picking.{permitted, placeFor, choice, afterPick, ruleP, answerSlot, schedule}
+use Rattle.rules.specs.Picking.{permitted, placeFor, leaves, choice, afterPick, ruleP, answerSlot, schedule}
 use Rattle.rules.specs.Ticking.{waitsBefore}
-use Rattle.scheduler.specs.Scheduler.{queuesOf, abs, Valid, Meets, HoldQueues}
-use Rattle.scheduler.specs.Private.{Gives, answerIn, whoRuns, toldBy}
+use Rattle.scheduler.specs.Scheduler.{abs, Valid, Meets}
+use Rattle.scheduler.specs.Private.{Gives, answerIn, pickAnswer, whoRuns, toldBy}
 use Rattle.rules.proofs.Calls.{call-accepted}
 use Rattle.rules.proofs.Invariant.{ready-in-table}
 use Rattle.rules.proofs.Picks.{P-past, P-below}
-use Rattle.scheduler.proofs.Promises.{leaving, meets-told, meets-given, gives-chosen, gives-as}
-use Rattle.scheduler.proofs.Seeking.{Seeking, seeking-band, seeking-place, found-place, found-first, before, chosen, none-chosen, waits-found, waits-none}
-use Rattle.scheduler.proofs.Arrays.{record-at, band-at, queue-at, queue-back}
+use Rattle.scheduler.proofs.Promises.{meets-told, meets-given, gives-chosen}
+use Rattle.scheduler.proofs.Seeking.{Seeking, seeking-band, seeking-place, found-place, found-first, before, chosen, none-chosen}
+use Rattle.scheduler.proofs.Seeking.{waits-found, waits-none}
+use Rattle.scheduler.proofs.Arrays.{record-at, band-at, queue-at}
+use Rattle.scheduler.proofs.Puts.{putTask, putQueue, putHolder, HoldsState, as-found, put-task, put-queue, put-holder}
 
 -- P is what schedule does
 P-accepted : {s : State} (core : ℕ) → Accepted s → Accepted (ruleP core s .state)
@@ -92,45 +92,39 @@ module _ {s : QoSScheduler} (v : Valid s) {core band place : ℕ} (k : Seeking (
           (before (abs s) core k b is e (sym entry-is ∙ some) (may ∙ passes)))
 
       -- the entry leaves, and runs on the core
-      pub pick-found : (f : Form) (previous : SlotOption) {a : Answer} {u : TaskControlBlock} {taken : Taken} {x : Value} → core < 64 → t ≡ true →
+      pub pick-found : (f : Form) (previous : SlotOption) {a : Answer} {u : TaskControlBlock} {taken : Taken} → core < 64 → t ≡ true →
           Take (getD (s .queues) band dq) place taken →
           u ≡ picked (getD (s .tasks) (e .0) d) →
-          x ≡ whoRuns f previous (slot.Some e) (getD (s .tasks) (e .0) d .cr3) →
-          a ≡ answered (pick.Some (record { slot = e; band = getD (s .tasks) (e .0) d .qos })) x →
+          a ≡ pickAnswer f previous e (getD (s .tasks) (e .0) d) →
           Gives (answerIn f previous (ruleP core (abs s)))
-          (leaving s a (set (s .tasks) (e .0) u) (set (s .queues) band (taken .queue)) (set (s .current) core (e .0)))
+          (record { answer = a; state = putHolder (putTask (putQueue s band (taken .queue)) (e .0) u) core (e .0) })
       unfolding abs
-      pick-found f previous {a} {u} {taken} below passes take u-is x-is a-is =
-          let first : choice (abs s) core bandOrder ≡ pick.Some (record { slot = e; band = b }) = chosen (abs s) core k b is e (sym entry-is ∙ some) (may ∙ passes) in
+      pick-found f previous {a} {u} {taken} below passes take u-is a-is =
+          let first : choice (abs s) core bandOrder ≡ pick.Some (record { slot = e; band = b }) =
+          chosen (abs s) core k b is e (sym entry-is ∙ some) (may ∙ passes) in
           let read-so : getD (s .tasks) (e .0) d ≡ task (abs s) (e .0) = record-at s v (e .0) d entry-low in
           let of-band : getD (s .tasks) (e .0) d .qos ≡ b = ap (λ (r : TaskControlBlock). r .qos) read-so ∙ ready .of-band in
           let runs : Chosen = afterPick (abs s) core (pick.Some (record { slot = e; band = b })) in
           let stored : task (runs .state) (e .0) ≡ picked (task (abs s) (e .0)) =
           getD-set-same (s .tasks) (e .0) (picked (task (abs s) (e .0))) emptyRecord (omega (arith, entry-low, v .accepted .slots)) in
-          let back : HoldQueues (set (s .queues) band (taken .queue)) (withBand (queuesOf (s .queues)) b (takenAt (placeFor (abs s) core b) (queue (abs s) b))) =
-          queue-back v b is dq (rw (found-place (abs s) core k b is e (sym entry-is ∙ some) (may ∙ passes))
-          (subst (λ (l : List ℕ). Holds (taken .queue) (takenAt place l)) (queue-at v b is dq) (take .queue-is))) in
+          let left : HoldsState (putQueue s band (taken .queue)) (leaves (abs s) core b) = put-queue (as-found v) b is dq (takenAt (placeFor (abs s) core b))
+          (rw (found-place (abs s) core k b is e (sym entry-is ∙ some) (may ∙ passes)) (take .queue-is)) in
           let comes : ruleP core (abs s) ≡ runs = P-below (abs s) core below ∙ ap (afterPick (abs s) core) first in
-          gives-as f refl (sym comes) (gives-chosen f previous runs (getD (s .tasks) (e .0) d .cr3) (subst (λ (c : Chosen). Accepted (c .state)) comes (P-accepted core (v .accepted)))
-          (ap (λ (r : TaskControlBlock). r .cr3) read-so ∙ ap (λ (r : TaskControlBlock). r .cr3) (sym stored)) (back .whole)
-          (a-is ∙ (λ i. answered (pick.Some (record { slot = e; band = of-band i })) (x-is i)))
-          (λ i. record {
-            tasks = set (s .tasks) (e .0) ((u-is ∙ ap picked read-so) i);
-            queues = back .entries-are i;
-            holders = set (s .current) core (e .0);
-            micros = s .«system_ticks_us»;
-          }))
+          gives-chosen f previous runs (getD (s .tasks) (e .0) d .cr3) comes (P-accepted core (v .accepted))
+          (ap (λ (r : TaskControlBlock). r .cr3) read-so ∙ ap (λ (r : TaskControlBlock). r .cr3) (sym stored))
+          (put-holder (put-task left (e .0) (u-is ∙ ap picked read-so)) core (e .0))
+          (a-is ∙ (λ i. answered (pick.Some (record { slot = e; band = of-band i })) (whoRuns f previous (slot.Some e) (getD (s .tasks) (e .0) d .cr3))))
 
 -- nobody may use the core
 module _ {s : QoSScheduler} (v : Valid s) {core : ℕ} where
-  pub pick-none : (f : Form) (previous : SlotOption) {band place : ℕ} {a : Answer} {x : Value} → core < 64 → Seeking (abs s) core band place → 3 ≤ band →
-      x ≡ whoRuns f previous slot.None 0 → a ≡ answered pick.None x →
-      Gives (answerIn f previous (ruleP core (abs s))) (leaving s a (s .tasks) (s .queues) (set (s .current) core noneByte))
+  pub pick-none : (f : Form) (previous : SlotOption) {band place : ℕ} {a : Answer} → core < 64 → Seeking (abs s) core band place → 3 ≤ band →
+      a ≡ answered pick.None (whoRuns f previous slot.None 0) →
+      Gives (answerIn f previous (ruleP core (abs s))) (record { answer = a; state = putHolder s core noneByte })
   unfolding abs
-  pick-none f previous below k past x-is a-is =
-      let comes : ruleP core (abs s) ≡ afterPick (abs s) core pick.None = P-below (abs s) core below ∙ ap (afterPick (abs s) core) (none-chosen (abs s) core k past) in
-      gives-as f refl (sym comes) (gives-chosen f previous (afterPick (abs s) core pick.None) 0
-      (subst (λ (c : Chosen). Accepted (c .state)) comes (P-accepted core (v .accepted))) tt (v .whole) (a-is ∙ ap (answered pick.None) x-is) refl)
+  pick-none f previous below k past a-is =
+      gives-chosen f previous (afterPick (abs s) core pick.None) 0
+      (P-below (abs s) core below ∙ ap (afterPick (abs s) core) (none-chosen (abs s) core k past)) (P-accepted core (v .accepted))
+      tt (put-holder (as-found v) core noneByte) a-is
 
   -- ---- schedule
 
@@ -144,6 +138,7 @@ module _ {s : QoSScheduler} (v : Valid s) {core : ℕ} where
 
 -- ---- the tick's test
 
-module _ {s : QoSScheduler} (v : Valid s) {core band place : ℕ} (k : Seeking (abs s) core band place) (qos : QoSClass) {own : ℕ} (own-is : own ≡ bandCode qos) where
+module _ {s : QoSScheduler} (v : Valid s) {core band place : ℕ} (k : Seeking (abs s) core band place)
+    (qos : QoSClass) {own : ℕ} (own-is : own ≡ bandCode qos) where
   pub test-none : own ≤ band → false ≡ waitsBefore qos (abs s) core
   test-none past = sym (waits-none (abs s) core qos (λ c l. k .passed c (omega arith)))

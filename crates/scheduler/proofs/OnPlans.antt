@@ -1,9 +1,9 @@
 -- Yield and handoff meet their contract: a law for each way out of the code. Assumes nothing.
-use mathlib.Core.Path.{_≡_, refl, sym, ap, _∙_, subst}
+use mathlib.Core.Path.{_≡_, refl, sym, ap, _∙_}
 use mathlib.Core.Bool.{true, false}
 use Prim.Native.Nat.{ℕ, _≤_, _<_}
 use borrow.Author.Tests.{le-leb, lt-leb}
-use lib.ListN.{getD, set}
+use lib.ListN.{getD}
 use Rattle.records.specs.declared.error.SchedError.the-variants.{NoSuchTask, NotBlocked}
 use Rattle.records.specs.declared.ids.Slot.{Slot}
 use Rattle.records.specs.declared.ids.SlotOption.{SlotOption}
@@ -17,23 +17,22 @@ use Rattle.records.specs.Task.{withState}
 use Rattle.queue.specs.declared.BandQueue.{BandQueue}
 use Rattle.queue.specs.declared.Pushed.{Pushed}
 use Rattle.queue.specs.Contracts.{Push}
-use Rattle.queue.specs.Entries.{pushed}
 use Rattle.rules.specs.declared.answer.PlanOption.the-variants as plan
 use Rattle.rules.specs.declared.answer.Value.the-variants as value
 use Rattle.rules.specs.declared.call.Call.the-variants.{Yield, Handoff, Plan}
 use Rattle.scheduler.specs.declared.scheduler.QoSScheduler.{QoSScheduler}
 use Rattle.scheduler.specs.declared.scheduler.Reply.{Reply}
-use Rattle.rules.specs.State.{State, noneByte, task, queue, holderIn, withBand, withTask, withQueue}
-use Rattle.rules.specs.Accepted.{Accepted}
+use Rattle.rules.specs.State.{State, noneByte, task, queue, holderIn}
 use Rattle.rules.specs.Picking.{ruleP}
 use Rattle.rules.specs.Waking.{enqueued}
 use Rattle.rules.specs.Ticking.{cleared, answerPlan, yieldHolder, yield, handoffIn, handoffHolder, handoff}
-use Rattle.scheduler.specs.Scheduler.{queuesOf, abs, Valid, Meets, HoldQueues}
+use Rattle.scheduler.specs.Scheduler.{abs, Valid, Meets}
 use Rattle.scheduler.specs.Private.{Gives, toldBy, refusedBy}
 use Rattle.rules.proofs.Effects.{enqueue-done, idle-in, yields}
-use Rattle.scheduler.proofs.Holders.{harmless-accepted, known, held, holder-may, holder-below, let-go, let-go-is}
+use Rattle.scheduler.proofs.Holders.{harmless-accepted, known, held, holder-may, holder-below, let-go}
 use Rattle.scheduler.proofs.Promises.{meets-told, meets-refused, meets-given}
-use Rattle.scheduler.proofs.Arrays.{record-at, pushed-back}
+use Rattle.scheduler.proofs.Arrays.{record-at}
+use Rattle.scheduler.proofs.Puts.{putTask, putQueue, HoldsState, as-found, holds-valid, put-holder, put-tail}
 
 -- ---- yield and handoff on a core of 64 and above
 
@@ -82,8 +81,9 @@ module _ {s : QoSScheduler} (v : Valid s) {core : ℕ} (low : core < 64) (d : �
       pub handoff-running : {r : Reply} → read .state ≡ Running → r ≡ toldBy s (value.Plan plan.None) → Meets (Handoff core) s r
       handoff-running so is = meets-told v (value.Plan plan.None) is (handoff-by Running so)
 
-      pub handoff-blocked : {r : Reply} → read .state ≡ Blocked → Gives (answerPlan (slot.Some h) (ruleP core (abs (let-go s core)))) r → Meets (Handoff core) s r
-      handoff-blocked so g = meets-given g (handoff-by Blocked so ∙ ap (λ (t : State). answerPlan (slot.Some h) (ruleP core t)) (sym (let-go-is s core)))
+      pub handoff-blocked : {r : Reply} → read .state ≡ Blocked → Gives (answerPlan (slot.Some h) (ruleP core (abs (let-go s core)))) r →
+          Meets (Handoff core) s r
+      handoff-blocked so g = meets-given g (handoff-by Blocked so ∙ rw (put-holder (as-found v) core noneByte .state-is) refl)
 
       pub handoff-ready : {r : Reply} → read .state ≡ Ready → r ≡ refusedBy s NotBlocked → Meets (Handoff core) s r
       handoff-ready so is = meets-refused v NotBlocked is (handoff-by Ready so)
@@ -98,20 +98,10 @@ module _ {s : QoSScheduler} (v : Valid s) {core : ℕ} (low : core < 64) (d : �
       module _ (so : isState (read .state) Running ≡ true) {n : ℕ} (code : IsBandCode (read .qos) n) (dq : BandQueue) {p : Pushed}
           (push : Push (getD (s .queues) n dq) h p) {u : TaskControlBlock} (u-is : u ≡ withState read Ready) where
         abbrev sent-back : QoSScheduler
-        sent-back = record { tasks = set (s .tasks) (h .0) u; queues = set (s .queues) n (p .queue); current = set (s .current) core noneByte; «system_ticks_us» = s .«system_ticks_us» }
+        sent-back = let-go (putTask (putQueue s n (p .queue)) (h .0) u) core
 
-        back : HoldQueues (set (s .queues) n (p .queue)) (withBand (queuesOf (s .queues)) (read .qos) (pushed (h .0) (queue (abs s) (read .qos))))
-        back = pushed-back v (read .qos) (code .is) dq push
-
-        abbrev left-with : TaskControlBlock → State
-        left-with t = cleared core (withTask (withQueue (abs s) (t .qos) (pushed (h .0) (queue (abs s) (t .qos)))) (h .0) (withState t Ready))
-
-        sent-back-holds : abs sent-back ≡ left-with read
-        unfolding abs
-        sent-back-holds = λ i. record { tasks = set (s .tasks) (h .0) (u-is i); queues = back .entries-are i; holders = set (s .current) core noneByte; micros = s .«system_ticks_us» }
-
-        sent-back-is : abs sent-back ≡ cleared core (enqueued (h .0) (abs s))
-        sent-back-is = sent-back-holds ∙ ap left-with read-is
+        sent-back-holds : HoldsState sent-back (cleared core (enqueued (h .0) (abs s)))
+        sent-back-holds = put-holder (put-tail (as-found v) h read-is code dq push (λ (t : TaskControlBlock). withState t Ready) u-is) core noneByte
 
         runs : isState (task (abs s) (h .0) .state) Running ≡ true
         runs = rw (sym read-is) so
@@ -120,15 +110,13 @@ module _ {s : QoSScheduler} (v : Valid s) {core : ℕ} (low : core < 64) (d : �
         idle = idle-in (task (abs s) (h .0)) Running runs refl
 
         pub sent-back-valid : Valid sent-back
-        sent-back-valid = record {
-          whole = back .whole;
-          accepted = subst Accepted (sym sent-back-is) (harmless-accepted (yields (abs s) (known v) (h .0) core low (holder-may v low d read-holder some .used) idle));
-        }
+        sent-back-valid =
+            holds-valid sent-back-holds (harmless-accepted (yields (abs s) (known v) (h .0) core low (holder-may v low d read-holder some .used) idle))
 
         yields-to : yield core (abs s) ≡ answerPlan (slot.Some h) (ruleP core (abs sent-back))
         yields-to =
             let queues-it = enqueue-done (abs s) (known v) (h .0) (holder-below v low d read-holder some) (holder-may v low d read-holder some .used) idle in
-            yield-by ∙ rw runs (rw queues-it (ap (λ (t : State). answerPlan (slot.Some h) (ruleP core t)) (sym sent-back-is)))
+            yield-by ∙ rw runs (rw queues-it (ap (λ (t : State). answerPlan (slot.Some h) (ruleP core t)) (sym (sent-back-holds .state-is))))
 
         pub yield-running : {r : Reply} → Gives (answerPlan (slot.Some h) (ruleP core (abs sent-back))) r → Meets (Yield core) s r
         yield-running g = meets-given g yields-to

@@ -7,7 +7,7 @@ use Prim.Native.Nat.{ℕ, _+_, _≤_, _<_}
 use native.Mathlib.Omega.{arith}
 use borrow.Author.Tests.{le-leb, lt-leb, lt-ltb, le-ltb, not-false, not-true}
 use lib.Dec.{eqb}
-use lib.ListN.{getD, set}
+use lib.ListN.{getD}
 use Rattle.records.specs.declared.band.QoSClass.{QoSClass}
 use Rattle.records.specs.declared.error.SchedError.the-variants.{TableFull, QueueFull, NoSuchTask, AlreadyReady, AlreadyBlocked, NotBlocked}
 use Rattle.records.specs.declared.ids.Slot.{Slot}
@@ -37,8 +37,9 @@ use Rattle.rules.specs.Outcome.{answered}
 use Rattle.scheduler.specs.Scheduler.{queuesOf, abs, Valid, Meets, HoldQueues}
 use Rattle.scheduler.specs.Private.{refusedBy}
 use Rattle.rules.specs.Waking.{freeSlot, create, released, affinity, terminate, missing, block, wake, enqueue}
-use Rattle.scheduler.proofs.Promises.{leaving, meets-put, kept, meets-refused, meets-as}
-use Rattle.scheduler.proofs.Arrays.{slots, record-at, queue-at, pushed-back}
+use Rattle.scheduler.proofs.Promises.{meets-done, meets-refused, meets-as}
+use Rattle.scheduler.proofs.Arrays.{slots, record-at, queue-at}
+use Rattle.scheduler.proofs.Puts.{putTask, putQueue, putQueues, putHolders, as-found, put-task, put-queues, put-holders, put-tail}
 use Rattle.scheduler.proofs.Searches.{search-on, search-found}
 
 -- ---- a slot of 64 and above
@@ -74,15 +75,16 @@ module _ {s : QoSScheduler} (v : Valid s) {slot : Slot} (d : TaskControlBlock) (
   read-is = record-at s v (slot .0) d low
 
   pub affinity-done : {mask : ℕ} {a : Answer} {t : TaskControlBlock} → t ≡ withMask read (storedMask mask) → a ≡ answered pick.None value.Nothing →
-      Meets (Affinity slot mask) s (leaving s a (set (s .tasks) (slot .0) t) (s .queues) (s .current))
+      Meets (Affinity slot mask) s (record { answer = a; state = putTask s (slot .0) t })
   unfolding affinity abs
-  affinity-done t-is a-is = meets-put v (slot .0) t-is (kept v) refl a-is (rw (lt-leb 64 (slot .0) low) (rw (sym read-is) refl))
+  affinity-done t-is a-is = meets-done v (put-task (as-found v) (slot .0) t-is) a-is (rw (lt-leb 64 (slot .0) low) (rw (sym read-is) refl))
 
   pub terminate-done : {a : Answer} {t : TaskControlBlock} {qs : List BandQueue} {hs : List ℕ} → t ≡ terminated read →
       HoldQueues qs (eachQueue (without (slot .0)) (queuesOf (s .queues))) → hs ≡ map (released (slot .0)) (s .current) → a ≡ answered pick.None value.Nothing →
-      Meets (Terminate slot) s (leaving s a (set (s .tasks) (slot .0) t) qs hs)
+      Meets (Terminate slot) s (record { answer = a; state = putHolders (putQueues (putTask s (slot .0) t) qs) hs })
   unfolding terminate abs
-  terminate-done t-is out hs-is a-is = meets-put v (slot .0) t-is out hs-is a-is (rw (lt-leb 64 (slot .0) low) (rw (sym read-is) refl))
+  terminate-done t-is out hs-is a-is =
+      meets-done v (put-holders (put-queues (put-task (as-found v) (slot .0) t-is) out) hs-is) a-is (rw (lt-leb 64 (slot .0) low) (rw (sym read-is) refl))
 
   free-missing : not (read .«in_use») ≡ true → missing (abs s) (slot .0) ≡ true
   free-missing free = rw (lt-leb 64 (slot .0) low) (rw (sym read-is) (rw free refl))
@@ -110,9 +112,10 @@ module _ {s : QoSScheduler} (v : Valid s) {slot : Slot} (d : TaskControlBlock) (
 
     pub block-done : {a : Answer} {t : TaskControlBlock} {qs : List BandQueue} → isState (read .state) Blocked ≡ false →
         HoldQueues qs (eachQueue (without (slot .0)) (queuesOf (s .queues))) → t ≡ blocked read → a ≡ answered pick.None value.Nothing →
-        Meets (Block slot) s (leaving s a (set (s .tasks) (slot .0) t) qs (s .current))
+        Meets (Block slot) s (record { answer = a; state = putTask (putQueues s qs) (slot .0) t })
     unfolding block abs
-    block-done so out t-is a-is = meets-put v (slot .0) t-is out refl a-is (rw there (rw (sym read-is) (rw so refl)))
+    block-done so out t-is a-is =
+        meets-done v (put-task (put-queues (as-found v) out) (slot .0) t-is) a-is (rw there (rw (sym read-is) (rw so refl)))
 
     pub wake-other : {r : Reply} → isState (read .state) Blocked ≡ false → r ≡ refusedBy s NotBlocked → Meets (Wake slot) s r
     unfolding wake
@@ -125,10 +128,10 @@ module _ {s : QoSScheduler} (v : Valid s) {slot : Slot} (d : TaskControlBlock) (
           meets-as m (rw there (rw (sym read-is) (rw so (rw (sym core-is) (rw (le-ltb core 64 none) refl)))))
 
       pub wake-held : {a : Answer} {t : TaskControlBlock} → core < 64 → t ≡ withState read Running → a ≡ answered pick.None value.Nothing →
-          Meets (Wake slot) s (leaving s a (set (s .tasks) (slot .0) t) (s .queues) (s .current))
+          Meets (Wake slot) s (record { answer = a; state = putTask s (slot .0) t })
       unfolding wake abs
       wake-held held t-is a-is =
-          meets-put v (slot .0) t-is (kept v) refl a-is (rw there (rw (sym read-is) (rw so (rw (sym core-is) (rw (lt-ltb core 64 held) refl)))))
+          meets-done v (put-task (as-found v) (slot .0) t-is) a-is (rw there (rw (sym read-is) (rw so (rw (sym core-is) (rw (lt-ltb core 64 held) refl)))))
 
     pub enqueue-again : {r : Reply} → isState (read .state) Ready ≡ true → r ≡ refusedBy s AlreadyReady → Meets (Enqueue slot) s r
     unfolding enqueue
@@ -150,11 +153,12 @@ module _ {s : QoSScheduler} (v : Valid s) {slot : Slot} (d : TaskControlBlock) (
       enqueue-full not-ok is = meets-refused v QueueFull is (rw there (rw (sym read-is) (rw so (rw (not-false (full es) (sym ok-is ∙ not-ok)) refl))))
 
       pub enqueue-done : {a : Answer} {t : TaskControlBlock} → p .ok ≡ true → t ≡ withState read Ready → a ≡ answered pick.None value.Nothing →
-          Meets (Enqueue slot) s (leaving s a (set (s .tasks) (slot .0) t) (set (s .queues) n (p .queue)) (s .current))
+          Meets (Enqueue slot) s (record { answer = a; state = putTask (putQueue s n (p .queue)) (slot .0) t })
       unfolding enqueue abs
       enqueue-done ok t-is a-is =
           let test : full es ≡ false = not-true (full es) (sym ok-is ∙ ok) in
-          meets-put v (slot .0) t-is (pushed-back v (read .qos) (code .is) dq push) refl a-is (rw there (rw (sym read-is) (rw so (rw test refl))))
+          meets-done v (put-tail (as-found v) slot read-is code dq push (λ (r : TaskControlBlock). withState r Ready) t-is) a-is
+          (rw there (rw (sym read-is) (rw so (rw test refl))))
 
 -- ---- create
 
@@ -164,15 +168,16 @@ module _ {s : QoSScheduler} (v : Valid s) (free : ℕ) (so-far : free ≤ freeSl
   unfolding abs
   create-on d low used = search-on (λ (t : TaskControlBlock). not (t .«in_use»)) (s .tasks) free d so-far (omega (arith, slots s v)) used
 
-  pub create-full : {tid : Tid} {qos : QoSClass} {context cr3 rsp0 : ℕ} {r : Reply} → 64 ≤ free → r ≡ refusedBy s TableFull → Meets (Create tid qos context cr3 rsp0) s r
+  pub create-full : {tid : Tid} {qos : QoSClass} {context cr3 rsp0 : ℕ} {r : Reply} → 64 ≤ free → r ≡ refusedBy s TableFull →
+      Meets (Create tid qos context cr3 rsp0) s r
   unfolding create
   create-full past is = meets-refused v TableFull is (rw (le-leb 64 (freeSlot (abs s)) (omega arith)) refl)
 
   pub create-done : {tid : Tid} {qos : QoSClass} {context cr3 rsp0 : ℕ} {a : Answer} {t : TaskControlBlock} → free < 64 → (d : TaskControlBlock) →
       not (getD (s .tasks) free d .«in_use») ≡ true →
       t ≡ created tid qos context cr3 rsp0 → a ≡ answered pick.None (value.Slot (slot.Some (record { 0 = free }))) →
-      Meets (Create tid qos context cr3 rsp0) s (leaving s a (set (s .tasks) free t) (s .queues) (s .current))
+      Meets (Create tid qos context cr3 rsp0) s (record { answer = a; state = putTask s free t })
   unfolding create abs
   create-done low d is t-is a-is =
       let found : freeSlot (abs s) ≡ free = search-found (λ (t : TaskControlBlock). not (t .«in_use»)) (s .tasks) free d so-far (omega (arith, slots s v)) is in
-      meets-put v free t-is (kept v) refl a-is (rw found (rw (lt-leb 64 free low) refl))
+      meets-done v (put-task (as-found v) free t-is) a-is (rw found (rw (lt-leb 64 free low) refl))

@@ -1,13 +1,12 @@
 -- Tick and plan meet their contract: a law for each way out of the code, and for each state that it hands on to a pick. Assumes nothing.
 use mathlib.Core.Path.{_≡_, refl, sym, ap, _∙_, subst}
 use mathlib.Core.Bool.{Bool, true, false, cond, or-true}
-use mathlib.Core.List.{List}
 use mathlib.Core.Logic.{_⊎_, ⊎-elim}
 use Prim.Native.Nat.{ℕ, _+_, _%_, _^_, _≤_, _<_}
 use native.Mathlib.Omega.{arith}
 use borrow.Author.Tests.{le-leb, lt-leb, leb-true}
 use lib.Dec.{leb}
-use lib.ListN.{length, getD, set}
+use lib.ListN.{length, getD}
 use lib.Seq.{getD-set-same, set-set}
 use Rattle.records.specs.declared.ids.Slot.{Slot}
 use Rattle.records.specs.declared.ids.SlotOption.{SlotOption}
@@ -32,21 +31,22 @@ use Rattle.scheduler.specs.declared.picking.Form.{Form}
 use Rattle.scheduler.specs.declared.picking.Form.the-variants as form
 use Rattle.scheduler.specs.declared.scheduler.QoSScheduler.{QoSScheduler}
 use Rattle.scheduler.specs.declared.scheduler.Reply.{Reply}
-use Rattle.rules.specs.State.{State, task, queue, holderIn, holderOf, withTask, withBand, withQueue}
+use Rattle.rules.specs.State.{State, noneByte, task, queue, holderIn, holderOf, withTask, withQueue}
 use Rattle.rules.specs.Accepted.{Accepted}
-use Rattle.rules.specs.Outcome.{Chosen, answered, done}
+use Rattle.rules.specs.Outcome.{answered, done}
 use Rattle.rules.specs.Picking.{noChoice, ruleP}
-use Rattle.rules.specs.Ticking.{gain, waitsBefore, sliceOver, requeued, staysHolder, ticked, tick, answerPlan, planned}
+use Rattle.rules.specs.Ticking.{gain, cleared, waitsBefore, sliceOver, requeued, staysHolder, ticked, tick, answerPlan, planned}
 use Rattle.rules.specs.Took.{outOfSlice}
-use Rattle.scheduler.specs.Scheduler.{queuesOf, abs, Whole, Valid, Meets, HoldQueues}
+use Rattle.scheduler.specs.Scheduler.{abs, Valid, Meets}
 use Rattle.scheduler.specs.Private.{Gives, answerIn, whoRuns, toldBy}
 use Rattle.rules.proofs.Calls.{call-accepted}
 use Rattle.rules.proofs.Effects.{slice-ends}
-use Rattle.scheduler.proofs.Holders.{harmless-accepted, known, held, holder-may, holder-below, let-go, let-go-is}
+use Rattle.scheduler.proofs.Holders.{harmless-accepted, known, held, holder-may, holder-below, let-go}
 use Rattle.rules.proofs.Invariant.{no-holder}
 use Rattle.rules.proofs.Moves.{Harmless, time}
 use Rattle.scheduler.proofs.Promises.{meets-given, gives-chosen, gives-as}
-use Rattle.scheduler.proofs.Arrays.{record-at, pushed-back}
+use Rattle.scheduler.proofs.Arrays.{record-at}
+use Rattle.scheduler.proofs.Puts.{putTask, putQueue, putMicros, HoldsState, as-found, holds-valid, put-task, put-holder, put-micros, put-tail}
 
 -- ---- the end of a slice, where the record is stored once
 
@@ -59,12 +59,7 @@ module _ (s : State) (i : ℕ) (there : i < length (s .tasks)) where
 
   pub out-queued : isState (task s i .state) Ready ≡ false →
       outOfSlice i s ≡ withTask (withQueue s (task s i .qos) (pushed i (queue s (task s i .qos)))) i (withState (withConsumed (task s i) 0) Ready)
-  out-queued so = rw stored (rw so (ap (λ (l : List TaskControlBlock). record {
-    tasks = l;
-    queues = withBand (s .queues) (task s i .qos) (pushed i (queue s (task s i .qos)));
-    holders = s .holders;
-    micros = s .micros;
-  }) (set-set (s .tasks) i (withConsumed (task s i) 0) (withState (withConsumed (task s i) 0) Ready))))
+  out-queued so = rw stored (rw so (rw (set-set (s .tasks) i (withConsumed (task s i) 0) (withState (withConsumed (task s i) 0) Ready)) refl))
 
 -- ---- what the tick promises, told in a form
 
@@ -91,13 +86,15 @@ module _ {s : QoSScheduler} (v : Valid s) (core elapsed : ℕ) where
   none-held past = ap holderIn (no-holder (abs s) (v .accepted .cores) core past)
 
   pub tick-past : (f : Form) {r : Reply} {x : Value} → 64 ≤ core → x ≡ whoRuns f slot.None slot.None 0 → r ≡ toldBy s x → Ticks f s core elapsed r
-  tick-past f past x-is is = gives-as f (sym (none-held past)) (sym (ticked-past past))
-      (subst (Gives (answerIn f slot.None (noChoice (abs s)))) (sym is) (gives-chosen f slot.None (noChoice (abs s)) 0 (v .accepted) tt (v .whole) (ap (answered pick.None) x-is) refl))
+  tick-past f past x-is is = gives-as f (sym (none-held past)) refl (subst (Gives (answerIn f slot.None (ticked core elapsed (abs s)))) (sym is)
+      (gives-chosen f slot.None (noChoice (abs s)) 0 (ticked-past past) (ticked-accepted core elapsed (v .accepted)) tt (as-found v)
+      (ap (answered pick.None) x-is)))
 
   -- told as a plan the tick is plan
   pub plan-told : {r : Reply} → Ticks form.Plan s core elapsed r → Meets (Plan core elapsed) s r
   unfolding planned
-  plan-told g = meets-given g (split (λ (b : Bool). leb 64 core ≡ b → cond b (done (value.Plan plan.None) (abs s)) (answerPlan (holderOf (abs s) core) (ticked core elapsed (abs s)))
+  plan-told g = meets-given g (split (λ (b : Bool). leb 64 core ≡ b →
+      cond b (done (value.Plan plan.None) (abs s)) (answerPlan (holderOf (abs s) core) (ticked core elapsed (abs s)))
       ≡ answerPlan (holderOf (abs s) core) (ticked core elapsed (abs s))) (leb 64 core)
       (λ _ past. rw (none-held (leb-true 64 core past)) (rw (ticked-past (leb-true 64 core past)) refl)) (λ _ _. refl) refl)
 
@@ -109,29 +106,30 @@ module _ {s : QoSScheduler} (v : Valid s) {core micros : ℕ} (elapsed : ℕ) (l
   now = gain elapsed (abs s)
 
   abbrev later : QoSScheduler
-  later = record { tasks = s .tasks; queues = s .queues; current = s .current; «system_ticks_us» = micros }
+  later = putMicros s micros
 
-  later-is : abs later ≡ now
+  later-holds : HoldsState later now
   unfolding abs
-  later-is = λ i. record { tasks = s .tasks; queues = queuesOf (s .queues); holders = s .current; micros = gained i }
+  later-holds = put-micros (as-found v) gained
 
   gone-by : Harmless (λ (x : ℕ). ⊥) (abs s) now
   gone-by = time (abs s) (known v) (now .micros)
 
   pub later-valid : Valid later
-  later-valid = record { whole = v .whole; accepted = subst Accepted (sym later-is) (harmless-accepted gone-by) }
+  later-valid = holds-valid later-holds (harmless-accepted gone-by)
 
   module _ (d : ℕ) {o : SlotOption} (read-holder : o ≡ holderIn (getD (s .current) core d)) where
     -- a pick from m, told from the holder that the core had
     abbrev Picks : Form → SlotOption → QoSScheduler → Reply → Type 0
     Picks f p m r = Gives (answerIn f p (ruleP core (abs m))) r
 
-    comes-from : (f : Form) {p : SlotOption} (m : QoSScheduler) {r : Reply} → o ≡ p → ruleP core (abs m) ≡ ticked core elapsed (abs s) → Picks f p m r → Ticks f s core elapsed r
+    comes-from : (f : Form) {p : SlotOption} (m : QoSScheduler) {r : Reply} → o ≡ p → ruleP core (abs m) ≡ ticked core elapsed (abs s) → Picks f p m r →
+        Ticks f s core elapsed r
     comes-from f m p-is is g = gives-as f (sym (held v low d read-holder ∙ p-is)) is g
 
     pub tick-none : (f : Form) {r : Reply} → o ≡ slot.None → Picks f o later r → Ticks f s core elapsed r
     unfolding ticked
-    tick-none f none g = comes-from f later refl (rw (lt-leb 64 core low) (rw (held v low d read-holder ∙ none) (rw later-is refl))) g
+    tick-none f none g = comes-from f later refl (rw (lt-leb 64 core low) (rw (held v low d read-holder ∙ none) (rw (later-holds .state-is) refl))) g
 
     module _ (h : Slot) (some : o ≡ slot.Some h) (dt : TaskControlBlock) where
       abbrev read : TaskControlBlock
@@ -140,11 +138,16 @@ module _ {s : QoSScheduler} (v : Valid s) {core micros : ℕ} (elapsed : ℕ) (l
       read-is : read ≡ task (abs s) (h .0)
       read-is = record-at s v (h .0) dt (holder-below v low d read-holder some)
 
+      there : h .0 < length (abs s .tasks)
+      there = omega (arith, holder-below v low d read-holder some, v .accepted .slots)
+
       -- the holder is Blocked: the core lets go of it
       pub tick-blocked : (f : Form) {r : Reply} → isState (read .state) Blocked ≡ true → Picks f (slot.Some h) (let-go later core) r → Ticks f s core elapsed r
       unfolding ticked
       tick-blocked f so g =
-          comes-from f (let-go later core) some (rw (lt-leb 64 core low) (rw (held v low d read-holder ∙ some) (rw (sym read-is) (rw so (rw (let-go-is later core) (rw later-is refl)))))) g
+          let cleared-is : abs (let-go later core) ≡ cleared core now = put-holder later-holds core noneByte .state-is in
+          comes-from f (let-go later core) some
+          (rw (lt-leb 64 core low) (rw (held v low d read-holder ∙ some) (rw (sym read-is) (rw so (rw cleared-is refl))))) g
 
       module _ (so : isState (read .state) Blocked ≡ false) where
         awake : isState (task (abs s) (h .0) .state) Blocked ≡ false
@@ -158,7 +161,7 @@ module _ {s : QoSScheduler} (v : Valid s) {core micros : ℕ} (elapsed : ℕ) (l
 
         -- the test, on what was read
         waits-so : {b : Bool} → waitsBefore (read .qos) (abs later) core ≡ b → waitsBefore (task (abs s) (h .0) .qos) now core ≡ b
-        waits-so e = (λ i. waitsBefore (sym read-is i .qos) (sym later-is i) core) ∙ e
+        waits-so e = (λ i. waitsBefore (sym read-is i .qos) (sym (later-holds .state-is) i) core) ∙ e
 
         goes-on : read .«consumed_slice_us» + elapsed < read .«slice_budget_us» → waitsBefore (read .qos) (abs later) core ≡ false →
             sliceOver (h .0) elapsed core now ≡ false
@@ -174,21 +177,18 @@ module _ {s : QoSScheduler} (v : Valid s) {core micros : ℕ} (elapsed : ℕ) (l
         charge t = withConsumed t (t .«consumed_slice_us» + elapsed)
 
         -- the slice goes on
-        pub tick-stays : (f : Form) {a : Answer} {u : TaskControlBlock} {x : Value} → read .«consumed_slice_us» + elapsed < read .«slice_budget_us» →
+        pub tick-stays : (f : Form) {a : Answer} {u : TaskControlBlock} → read .«consumed_slice_us» + elapsed < read .«slice_budget_us» →
             waitsBefore (read .qos) (abs later) core ≡ false → u ≡ charge read →
-            x ≡ whoRuns f (slot.Some h) (slot.Some h) (read .cr3) →
-            a ≡ answered pick.None x →
-            Ticks f s core elapsed (record { answer = a; state = record { tasks = set (s .tasks) (h .0) u; queues = s .queues; current = s .current; «system_ticks_us» = micros } })
+            a ≡ answered pick.None (whoRuns f (slot.Some h) (slot.Some h) (read .cr3)) →
+            Ticks f s core elapsed (record { answer = a; state = putTask later (h .0) u })
         unfolding abs
-        tick-stays f short nobody u-is x-is a-is =
-            let comes : ticked core elapsed (abs s) ≡ staysHolder h elapsed now = comes-to false (goes-on short nobody) in
+        tick-stays f short nobody u-is a-is =
             let stored : task (staysHolder h elapsed now .state) (h .0) ≡ charge (task (abs s) (h .0)) =
-            getD-set-same (s .tasks) (h .0) (charge (task (abs s) (h .0))) emptyRecord (omega (arith, holder-below v low d read-holder some, v .accepted .slots)) in
-            gives-as f (sym (held v low d read-holder ∙ some)) (sym comes) (gives-chosen f (slot.Some h) (staysHolder h elapsed now) (read .cr3)
-            (subst (λ (c : Chosen). Accepted (c .state)) comes (ticked-accepted core elapsed (v .accepted)))
-            (ap (λ (t : TaskControlBlock). t .cr3) read-is ∙ ap (λ (t : TaskControlBlock). t .cr3) (sym stored)) (v .whole)
-            (a-is ∙ ap (answered pick.None) x-is)
-            (λ i. record { tasks = set (s .tasks) (h .0) ((u-is ∙ ap charge read-is) i); queues = queuesOf (s .queues); holders = s .current; micros = gained i }))
+            getD-set-same (s .tasks) (h .0) (charge (task (abs s) (h .0))) emptyRecord there in
+            gives-as f (sym (held v low d read-holder ∙ some)) refl (gives-chosen f (slot.Some h) (staysHolder h elapsed now) (read .cr3)
+            (comes-to false (goes-on short nobody)) (ticked-accepted core elapsed (v .accepted))
+            (ap (λ (t : TaskControlBlock). t .cr3) read-is ∙ ap (λ (t : TaskControlBlock). t .cr3) (sym stored))
+            (put-task later-holds (h .0) (u-is ∙ ap charge read-is)) a-is)
 
         -- the slice is over: an earlier band's entry waits, or the budget is reached
         module _ (why : (waitsBefore (read .qos) (abs later) core ≡ true) ⊎ (read .«slice_budget_us» ≤ read .«consumed_slice_us» + elapsed)) where
@@ -198,61 +198,40 @@ module _ {s : QoSScheduler} (v : Valid s) {core micros : ℕ} (elapsed : ℕ) (l
           ends : Harmless (λ (x : ℕ). ⊥) now (outOfSlice (h .0) now) × (requeued (h .0) now ≡ outOfSlice (h .0) now)
           ends = slice-ends now (gone-by .invariant) (h .0) (holder-may v low d read-holder some .used)
 
-          there : h .0 < length (abs s .tasks)
-          there = omega (arith, holder-below v low d read-holder some, v .accepted .slots)
-
           -- a scheduler that holds what is left at the end of the slice
-          ended-valid : {m : QoSScheduler} → Whole (m .queues) → abs m ≡ outOfSlice (h .0) now → Valid m
-          ended-valid w is = record { whole = w; accepted = subst Accepted (sym is) (harmless-accepted (ends .0)) }
+          ended-valid : {m : QoSScheduler} → HoldsState m (outOfSlice (h .0) now) → Valid m
+          ended-valid k = holds-valid k (harmless-accepted (ends .0))
 
-          ended : (f : Form) (m : QoSScheduler) {r : Reply} → abs m ≡ outOfSlice (h .0) now → Picks f (slot.Some h) m r → Ticks f s core elapsed r
-          ended f m is g = comes-from f m some (sym (comes-to true over ∙ ap (ruleP core) (ends .1 ∙ sym is))) g
+          ended : (f : Form) {m : QoSScheduler} {r : Reply} → HoldsState m (outOfSlice (h .0) now) → Picks f (slot.Some h) m r → Ticks f s core elapsed r
+          ended f {m} k g = comes-from f m some (sym (comes-to true over ∙ ap (ruleP core) (ends .1 ∙ sym (k .state-is)))) g
 
           -- a Ready holder waits already
           module _ (waits : isState (read .state) Ready ≡ true) {u : TaskControlBlock} (u-is : u ≡ withConsumed read 0) where
             abbrev spared : QoSScheduler
-            spared = record { tasks = set (s .tasks) (h .0) u; queues = s .queues; current = s .current; «system_ticks_us» = micros }
+            spared = putTask later (h .0) u
 
-            spared-holds : abs spared ≡ withTask now (h .0) (withConsumed (task (abs s) (h .0)) 0)
-            unfolding abs
-            spared-holds = λ i. record {
-              tasks = set (s .tasks) (h .0) ((u-is ∙ ap (λ (t : TaskControlBlock). withConsumed t 0) read-is) i);
-              queues = queuesOf (s .queues);
-              holders = s .current;
-              micros = gained i;
-            }
-
-            spared-is : abs spared ≡ outOfSlice (h .0) now
-            spared-is = spared-holds ∙ sym (out-ready now (h .0) there (rw (sym read-is) waits))
+            spared-holds : HoldsState spared (outOfSlice (h .0) now)
+            spared-holds = rw (out-ready now (h .0) there (rw (sym read-is) waits))
+                (put-task later-holds (h .0) (u-is ∙ ap (λ (t : TaskControlBlock). withConsumed t 0) read-is))
 
             pub spared-valid : Valid spared
-            spared-valid = ended-valid (v .whole) spared-is
+            spared-valid = ended-valid spared-holds
 
             pub tick-waits : (f : Form) {r : Reply} → Picks f (slot.Some h) spared r → Ticks f s core elapsed r
-            tick-waits f g = ended f spared spared-is g
+            tick-waits f g = ended f spared-holds g
 
           -- any other goes to the tail of its band
           module _ (runs : isState (read .state) Ready ≡ false) {n : ℕ} (code : IsBandCode (read .qos) n) (dq : BandQueue) {p : Pushed}
               (push : Push (getD (s .queues) n dq) h p) {u : TaskControlBlock} (u-is : u ≡ withState (withConsumed read 0) Ready) where
             abbrev sent-back : QoSScheduler
-            sent-back = record { tasks = set (s .tasks) (h .0) u; queues = set (s .queues) n (p .queue); current = s .current; «system_ticks_us» = micros }
+            sent-back = putTask (putQueue later n (p .queue)) (h .0) u
 
-            back : HoldQueues (set (s .queues) n (p .queue)) (withBand (queuesOf (s .queues)) (read .qos) (pushed (h .0) (queue (abs s) (read .qos))))
-            back = pushed-back v (read .qos) (code .is) dq push
-
-            -- the state that is left, by the record that was read
-            abbrev left-with : TaskControlBlock → State
-            left-with t = withTask (withQueue now (t .qos) (pushed (h .0) (queue (abs s) (t .qos)))) (h .0) (withState (withConsumed t 0) Ready)
-
-            sent-back-holds : abs sent-back ≡ left-with read
-            unfolding abs
-            sent-back-holds = λ i. record { tasks = set (s .tasks) (h .0) (u-is i); queues = back .entries-are i; holders = s .current; micros = gained i }
-
-            sent-back-is : abs sent-back ≡ outOfSlice (h .0) now
-            sent-back-is = sent-back-holds ∙ ap left-with read-is ∙ sym (out-queued now (h .0) there (rw (sym read-is) runs))
+            sent-back-holds : HoldsState sent-back (outOfSlice (h .0) now)
+            sent-back-holds = rw (out-queued now (h .0) there (rw (sym read-is) runs))
+                (put-tail later-holds h read-is code dq push (λ (t : TaskControlBlock). withState (withConsumed t 0) Ready) u-is)
 
             pub sent-back-valid : Valid sent-back
-            sent-back-valid = ended-valid (back .whole) sent-back-is
+            sent-back-valid = ended-valid sent-back-holds
 
             pub tick-over : (f : Form) {r : Reply} → Picks f (slot.Some h) sent-back r → Ticks f s core elapsed r
-            tick-over f g = ended f sent-back sent-back-is g
+            tick-over f g = ended f sent-back-holds g

@@ -1,14 +1,10 @@
 -- What a call promises, from what it did: any call, one that is refused or changes nothing, and one that ends as another does; and what a pick
 -- promises, told as a slot or as a plan. Assumes nothing.
 use mathlib.Core.Path.{_≡_, refl, sym, ap, _∙_, subst}
-use mathlib.Core.List.{List}
 use Prim.Native.Nat.{ℕ}
-use lib.ListN.{set}
 use Rattle.records.specs.declared.error.SchedError.{SchedError}
 use Rattle.records.specs.declared.ids.SlotOption.{SlotOption}
 use Rattle.records.specs.declared.ids.SlotOption.the-variants as slot
-use Rattle.records.specs.declared.task.TaskControlBlock.{TaskControlBlock}
-use Rattle.queue.specs.declared.BandQueue.{BandQueue}
 use Rattle.rules.specs.declared.answer.Answer.{Answer}
 use Rattle.rules.specs.declared.answer.ContextSwitchTarget.{ContextSwitchTarget}
 use Rattle.rules.specs.declared.answer.ContextSwitchTarget.the-variants.{Task}
@@ -20,49 +16,15 @@ use Rattle.scheduler.specs.declared.picking.Form.{Form}
 use Rattle.scheduler.specs.declared.picking.Form.the-variants as form
 use Rattle.scheduler.specs.declared.scheduler.QoSScheduler.{QoSScheduler}
 use Rattle.scheduler.specs.declared.scheduler.Reply.{Reply}
-use Rattle.rules.specs.State.{State, Queues, task}
+use Rattle.rules.specs.State.{State, task}
 use Rattle.rules.specs.Accepted.{Accepted}
 use Rattle.rules.specs.Outcome.{Outcome, Chosen, answered, done, refused}
 use Rattle.rules.specs.Ticking.{targetOf, planTo}
 use Rattle.rules.specs.Step.{step}
-use Rattle.scheduler.specs.Scheduler.{queuesOf, abs, Whole, Valid, Meets, HoldQueues}
+use Rattle.scheduler.specs.Scheduler.{abs, Valid, Meets}
 use Rattle.scheduler.specs.Private.{toldBy, refusedBy, Gives, answerIn, targetWith, whoRuns}
 use Rattle.rules.proofs.Calls.{call-accepted}
-
--- a reply with these arrays, and the time as it was
-abbrev pub leaving : QoSScheduler → Answer → List TaskControlBlock → List BandQueue → List ℕ → Reply
-leaving s a ts qs hs = record { answer = a; state = record { tasks = ts; queues = qs; current = hs; «system_ticks_us» = s .«system_ticks_us» } }
-
-module _ {call : Call} {s : QoSScheduler} (v : Valid s) where
-  -- what the rules make of it is accepted
-  pub meets : {r : Reply} (o : Outcome) → step call (abs s) ≡ o → Whole (r .state .queues) → r .answer ≡ o .answer → abs (r .state) ≡ o .state → Meets call s r
-  meets {r = r} o by w answer state =
-      let state-is : abs (r .state) ≡ step call (abs s) .state = state ∙ ap (λ (p : Outcome). p .state) (sym by) in
-      record {
-        valid = record { whole = w; accepted = subst Accepted (sym state-is) (call-accepted call (abs s) (v .accepted)) };
-        answer-is = answer ∙ ap (λ (p : Outcome). p .answer) (sym by);
-        state-is = state-is;
-      }
-
-  -- done, with a record, the queues and the holders replaced
-  pub meets-put : (i : ℕ) {t u : TaskControlBlock} {qs : List BandQueue} {q : Queues} {hs now : List ℕ} {a : Answer} {x : Value} →
-      t ≡ u → HoldQueues qs q → hs ≡ now → a ≡ answered pick.None x →
-      step call (abs s) ≡ done x (record { tasks = set (s .tasks) i u; queues = q; holders = now; micros = s .«system_ticks_us» }) →
-      Meets call s (leaving s a (set (s .tasks) i t) qs hs)
-  unfolding abs
-  meets-put i {u = u} {q = q} {now = now} {x = x} t-is held hs-is a-is by =
-      meets (done x (record { tasks = set (s .tasks) i u; queues = q; holders = now; micros = s .«system_ticks_us» })) by (held .whole) a-is
-      (λ j. record { tasks = set (s .tasks) i (t-is j); queues = held .entries-are j; holders = hs-is j; micros = s .«system_ticks_us» })
-
-  pub meets-refused : (e : SchedError) {r : Reply} → r ≡ refusedBy s e → step call (abs s) ≡ refused e (abs s) → Meets call s r
-  meets-refused e is by = subst (Meets call s) (sym is) (meets (refused e (abs s)) by (v .whole) refl refl)
-
-  pub meets-told : (x : Value) {r : Reply} → r ≡ toldBy s x → step call (abs s) ≡ done x (abs s) → Meets call s r
-  meets-told x is by = subst (Meets call s) (sym is) (meets (done x (abs s)) by (v .whole) refl refl)
-
--- the queues as they are
-pub kept : {s : QoSScheduler} → Valid s → HoldQueues (s .queues) (queuesOf (s .queues))
-kept v = record { whole = v .whole; entries-are = refl }
+use Rattle.scheduler.proofs.Puts.{HoldsState, as-found, holds-valid}
 
 -- what was given is what the rules make of the call
 pub meets-given : {call : Call} {s : QoSScheduler} {o : Outcome} {r : Reply} → Gives o r → step call (abs s) ≡ o → Meets call s r
@@ -71,6 +33,23 @@ meets-given g by = record {
   answer-is = g .answer-is ∙ ap (λ (p : Outcome). p .answer) (sym by);
   state-is = g .state-is ∙ ap (λ (p : Outcome). p .state) (sym by);
 }
+
+module _ {call : Call} {s : QoSScheduler} (v : Valid s) where
+  -- what the rules make of it is accepted
+  pub meets : {r : Reply} (o : Outcome) → step call (abs s) ≡ o → HoldsState (r .state) (o .state) → r .answer ≡ o .answer → Meets call s r
+  meets o by k answer =
+      let ok : Accepted (o .state) = subst (λ (p : Outcome). Accepted (p .state)) by (call-accepted call (abs s) (v .accepted)) in
+      meets-given (record { valid = holds-valid k ok; answer-is = answer; state-is = k .state-is }) by
+
+  pub meets-done : {m : QoSScheduler} {t : State} {a : Answer} {x : Value} → HoldsState m t → a ≡ answered pick.None x → step call (abs s) ≡ done x t →
+      Meets call s (record { answer = a; state = m })
+  meets-done {t = t} {x = x} k a-is by = meets (done x t) by k a-is
+
+  pub meets-refused : (e : SchedError) {r : Reply} → r ≡ refusedBy s e → step call (abs s) ≡ refused e (abs s) → Meets call s r
+  meets-refused e is by = subst (Meets call s) (sym is) (meets (refused e (abs s)) by (as-found v) refl)
+
+  pub meets-told : (x : Value) {r : Reply} → r ≡ toldBy s x → step call (abs s) ≡ done x (abs s) → Meets call s r
+  meets-told x is by = subst (Meets call s) (sym is) (meets-done (as-found v) refl by)
 
 -- the call goes on as another, from another state
 pub meets-as : {call other : Call} {s t : QoSScheduler} {r : Reply} → Meets other t r → step call (abs s) ≡ step other (abs t) → Meets call s r
@@ -100,18 +79,24 @@ target-known : (next : SlotOption) (s : State) (cr3 : ℕ) → Cr3Of next s cr3 
 target-known slot.None s cr3 is = refl
 target-known (slot.Some n) s cr3 is = ap (Task n) is
 
-pub gives-chosen : (f : Form) (previous : SlotOption) (c : Chosen) {r : Reply} (cr3 : ℕ) → Accepted (c .state) → Cr3Of (c .next) (c .state) cr3 →
-    Whole (r .state .queues) → r .answer ≡ answered (c .pick) (whoRuns f previous (c .next) cr3) → abs (r .state) ≡ c .state → Gives (answerIn f previous c) r
-gives-chosen form.Slot previous c cr3 ok is w answer state =
-    record { valid = record { whole = w; accepted = subst Accepted (sym state) ok }; answer-is = answer; state-is = state }
-gives-chosen form.Plan previous c cr3 ok is w answer state = record {
-  valid = record { whole = w; accepted = subst Accepted (sym state) ok };
+told-chosen : (f : Form) (previous : SlotOption) (c : Chosen) {r : Reply} (cr3 : ℕ) → Accepted (c .state) → Cr3Of (c .next) (c .state) cr3 →
+    HoldsState (r .state) (c .state) → r .answer ≡ answered (c .pick) (whoRuns f previous (c .next) cr3) → Gives (answerIn f previous c) r
+told-chosen form.Slot previous c cr3 ok is k answer = record { valid = holds-valid k ok; answer-is = answer; state-is = k .state-is }
+told-chosen form.Plan previous c cr3 ok is k answer = record {
+  valid = holds-valid k ok;
   answer-is = answer ∙ ap
       (λ (t : ContextSwitchTarget). answered (c .pick) (value.Plan (planTo previous (c .next) t)))
       (target-known (c .next) (c .state) cr3 is);
-  state-is = state;
+  state-is = k .state-is;
 }
 
 -- the same choice, by another way to it
 pub gives-as : (f : Form) {p q : SlotOption} {c d : Chosen} {r : Reply} → p ≡ q → c ≡ d → Gives (answerIn f p c) r → Gives (answerIn f q d) r
 gives-as f {r = r} p-is c-is g = subst (λ (o : Outcome). Gives o r) (λ i. answerIn f (p-is i) (c-is i)) g
+
+-- the rules' choice, which comes to c
+pub gives-chosen : (f : Form) (previous : SlotOption) (c : Chosen) {rules : Chosen} {r : Reply} (cr3 : ℕ) → rules ≡ c → Accepted (rules .state) →
+    Cr3Of (c .next) (c .state) cr3 → HoldsState (r .state) (c .state) → r .answer ≡ answered (c .pick) (whoRuns f previous (c .next) cr3) →
+    Gives (answerIn f previous rules) r
+gives-chosen f previous c cr3 comes ok is k answer =
+    gives-as f refl (sym comes) (told-chosen f previous c cr3 (subst (λ (d : Chosen). Accepted (d .state)) comes ok) is k answer)

@@ -17,7 +17,7 @@ use Rattle.queue.specs.Stored.{entries, Holds}
 use Rattle.queue.specs.Entries.{without}
 use Rattle.rules.specs.State.{Queues, ofBand, withBand, eachQueue}
 use Rattle.scheduler.specs.Scheduler.{queuesOf, Whole, HoldQueues}
-use Rattle.scheduler.proofs.Arrays.{band-at, entries-at, queue-put}
+use Rattle.scheduler.proofs.Arrays.{band-at, queue-changed}
 
 -- ---- a list whose first k elements are mapped
 
@@ -70,17 +70,18 @@ module _ (slot : ℕ) where
   pub out-begin : (qs : List BandQueue) → Whole qs → HoldQueues qs (outBelow 0 (queuesOf qs))
   out-begin qs w = record { whole = w; entries-are = refl }
 
-  out-next : (b : QoSClass) (q : Queues) → withBand (outBelow (bandCode b) q) b (without slot (ofBand (outBelow (bandCode b) q) b)) ≡ outBelow (bandCode b + 1) q
+  out-next : (b : QoSClass) (q : Queues) →
+      withBand (outBelow (bandCode b) q) b (without slot (ofBand (outBelow (bandCode b) q) b)) ≡ outBelow (bandCode b + 1) q
   out-next UserInteractive q = refl
   out-next RealTimeIO q = refl
   out-next Background q = refl
 
   module _ (q : Queues) {qs : List BandQueue} where
-    out-of-band : {r : BandQueue} (b : QoSClass) (d : BandQueue) → HoldQueues qs (outBelow (bandCode b) q) → Holds r (without slot (entries (getD qs (bandCode b) d))) →
-        HoldQueues (set qs (bandCode b) r) (outBelow (bandCode b + 1) q)
+    out-of-band : {r : BandQueue} (b : QoSClass) (d : BandQueue) → HoldQueues qs (outBelow (bandCode b) q) →
+        Holds r (without slot (entries (getD qs (bandCode b) d))) → HoldQueues (set qs (bandCode b) r) (outBelow (bandCode b + 1) q)
     out-of-band {r} b d h is =
         let put : HoldQueues (set qs (bandCode b) r) (withBand (queuesOf qs) b (without slot (ofBand (queuesOf qs) b))) =
-        queue-put qs (h .whole) b refl (subst (λ (l : List ℕ). Holds r (without slot l)) (entries-at qs (h .whole) b refl d) is) in
+        queue-changed qs (h .whole) b refl d (without slot) is in
         subst (HoldQueues (set qs (bandCode b) r)) (ap (λ (p : Queues). withBand p b (without slot (ofBand p b))) (h .entries-are) ∙ out-next b q) put
 
     -- out of the queue at place n: on to the next

@@ -2,10 +2,13 @@
 use mathlib.Core.Path.{_≡_}
 use Prim.Native.Nat.{ℕ}
 use Rattle.records.specs.declared.error.SchedError.{SchedError}
+use Rattle.records.specs.declared.ids.Slot.{Slot}
 use Rattle.records.specs.declared.ids.SlotOption.{SlotOption}
 use Rattle.records.specs.declared.ids.SlotOption.the-variants as slot
+use Rattle.records.specs.declared.task.TaskControlBlock.{TaskControlBlock}
 use Rattle.scheduler.specs.declared.scheduler.QoSScheduler.{QoSScheduler}
 use Rattle.scheduler.specs.declared.scheduler.Reply.{Reply}
+use Rattle.rules.specs.declared.answer.Answer.{Answer}
 use Rattle.rules.specs.declared.answer.ContextSwitchTarget.{ContextSwitchTarget}
 use Rattle.rules.specs.declared.answer.ContextSwitchTarget.the-variants.{Task, Idle}
 use Rattle.rules.specs.declared.answer.PickOption.the-variants as pick
@@ -50,3 +53,7 @@ targetWith (slot.Some n) cr3 = Task n cr3
 abbrev pub whoRuns : Form → SlotOption → SlotOption → ℕ → Value
 whoRuns form.Slot previous next cr3 = value.Slot next
 whoRuns form.Plan previous next cr3 = value.Plan (planTo previous next (targetWith next cr3))
+
+-- the answer to a pick: the slot, by its record, is the pick made and who is to run
+abbrev pub pickAnswer : Form → SlotOption → Slot → TaskControlBlock → Answer
+pickAnswer f previous s t = answered (pick.Some (record { slot = s; band = t .qos })) (whoRuns f previous (slot.Some s) (t .cr3))

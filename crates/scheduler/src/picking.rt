@@ -2,9 +2,10 @@
 // plan to switch.
 ghost use mathlib.Core.Path.{_≡_};
 ghost use Prim.Native.Nat.{_<_};
+ghost use Rattle.rules.specs.Outcome.{answered};
 ghost use Rattle.rules.specs.Picking.{ruleP};
 ghost use Rattle.scheduler.specs.Scheduler.{Valid, Meets, abs};
-ghost use Rattle.scheduler.specs.Private.{Gives, answerIn, whoRuns, switchTo};
+ghost use Rattle.scheduler.specs.Private.{Gives, answerIn, pickAnswer, whoRuns, switchTo};
 ghost use Rattle.rules.specs.Ticking.{same};
 use crate::answer::done;
 use crate::scheduler::NO_HOLDER;
@@ -12,8 +13,11 @@ use crate::scheduler::QoSScheduler;
 use crate::scheduler::Reply;
 use records::BAND_COUNT;
 use records::MAX_CPUS;
+use records::Slot;
 use records::SlotOption;
+use records::TaskControlBlock;
 use records::mask_permits;
+use rules::Answer;
 use rules::Call;
 use rules::ContextSwitchPlan;
 use rules::ContextSwitchTarget;
@@ -74,14 +78,11 @@ impl QoSScheduler {
                     if mask_permits(task.cpu_affinity, core) {
                         let taken = queue.take_at(place);
                         let rest = taken.queue;
-                        let qos = task.qos;
                         self.queues[band] = rest;
                         self.tasks[index] = task.picked();
                         self.current[core] = index as u8;
-                        let pick = PickOption::Some(Pick { slot, band: qos });
-                        let value = who_runs(form, previous, entry, task.cr3);
                         return Reply {
-                            answer: done(pick, value),
+                            answer: pick_answer(form, previous, slot, task),
                             state: self,
                         };
                     }
@@ -90,12 +91,33 @@ impl QoSScheduler {
             }
         }
         self.current[core] = NO_HOLDER;
-        let value = who_runs(form, previous, SlotOption::None, 0);
         Reply {
-            answer: done(PickOption::None, value),
+            answer: choice_answer(PickOption::None, form, previous, SlotOption::None, 0),
             state: self,
         }
     }
+}
+
+// The answer to a pick: the slot with its band is the pick made, and it is who is to run.
+fn pick_answer(form: Form, previous: SlotOption, slot: Slot, task: TaskControlBlock) -> Answer
+    ensures { λ r. ⌜ r ≡ pickAnswer form previous slot task ⌝ }
+{
+    let qos = task.qos;
+    let pick = PickOption::Some(Pick { slot, band: qos });
+    choice_answer(pick, form, previous, SlotOption::Some(slot), task.cr3)
+}
+
+// The answer to a choice: the pick that led there, if any, and who is to run.
+pub(crate) fn choice_answer(
+    pick: PickOption,
+    form: Form,
+    previous: SlotOption,
+    next: SlotOption,
+    cr3: u64,
+) -> Answer
+    ensures { λ r. ⌜ r ≡ answered pick (whoRuns form previous next cr3) ⌝ }
+{
+    done(pick, who_runs(form, previous, next, cr3))
 }
 
 // Who is to run on a core, as an answer's value: as a slot, or as a plan from the previous holder. `cr3` is of the task that

@@ -4,8 +4,8 @@ ghost use Rattle.scheduler.specs.Private.{Gives, answerIn};
 ghost use Rattle.rules.specs.State.{holderOf};
 ghost use Rattle.rules.specs.Ticking.{ticked, waitsBefore};
 ghost use mathlib.Core.Path.{_≡_};
-use crate::answer::done;
 use crate::picking::Form;
+use crate::picking::choice_answer;
 use crate::picking::who_runs;
 use crate::scheduler::NO_HOLDER;
 use crate::scheduler::QoSScheduler;
@@ -67,9 +67,8 @@ impl QoSScheduler {
         let charged = task.consumed_slice_us as u64 + elapsed_us as u64;
         if charged < task.slice_budget_us as u64 && !self.waits_before(qos, core) {
             self.tasks[index] = task.with_consumed(charged as u32);
-            let value = who_runs(form, previous, previous, task.cr3);
             return Reply {
-                answer: done(PickOption::None, value),
+                answer: choice_answer(PickOption::None, form, previous, previous, task.cr3),
                 state: self,
             };
         }

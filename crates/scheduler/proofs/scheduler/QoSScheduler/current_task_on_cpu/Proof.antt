@@ -11,14 +11,6 @@ use Rattle.scheduler.proofs.scheduler.QoSScheduler.current_task_on_cpu.
 returns : tie.Need-returns
 returns c = sym (no-core-record _ (c .if1 .taken) _)
 
-mul-t12 : tie.Need-mul-t12
-mul-t12 c =
-    omega (
-      arith,
-      holder-below (c .before .before .before .before .before .before .pre) (c .before .before .before .before .before .if1 .left) _
-          (c .before .before .before .holder-of .ensures) (c .before .holder .given .1),
-    )
-
 element-copy-out-t15 : tie.Need-element-copy-out-t15
 element-copy-out-t15 c =
     holder-below (c .before .before .before .before .before .before .pre) (c .before .before .before .before .before .if1 .left) _
@@ -44,7 +36,7 @@ current-task-on-cpu-spec =
     (λ c κs. search needs)
     (λ c. search needs)
     (λ c. search needs)
-    mul-t12
+    (λ c. omega (arith, element-copy-out-t15 c))
     element-copy-out-t15
     returns-2
     returns-3)

@@ -36,15 +36,6 @@ loop-again c =
       ),
     )
 
-mul-task : tie.Need-mul-task Inv-loop μ-loop
-mul-task c =
-    let inv = c .before .before .before .before .before .before .loop .inv in
-    omega (
-      arith,
-      entry-low (inv .1 .0) (inv .1 .1) (c .before .before .before .before .before .loop-test .taken) _
-          (c .before .before .before .entry-at .ensures) _ (c .before .entry .given .1),
-    )
-
 element-copy-out-task : tie.Need-element-copy-out-task Inv-loop μ-loop
 element-copy-out-task c =
     let inv = c .before .before .before .before .before .before .loop .inv in
@@ -56,54 +47,20 @@ take-at-requires c κs =
     let at-loop = c .before .before .before .before .before .before .before .before .before in
     ring-below _ (at-loop .loop .inv .1 .0 .whole) _ _ (search needs)
 
-mul-t29 : tie.Need-mul-t29 Inv-loop μ-loop
-mul-t29 c =
-    let at-entry = c .before .before .before .before .before .before .before in
-    let inv = at-entry .before .before .before .before .before .loop .inv in
-    omega (
-      arith,
-      entry-low (inv .1 .0) (inv .1 .1) (at-entry .before .before .before .before .loop-test .taken) _
-          (at-entry .before .before .entry-at .ensures) _ (at-entry .entry .given .1),
-    )
-
 element-set-from-self : tie.Need-element-set-from-self Inv-loop μ-loop
-element-set-from-self c =
-    let at-entry = c .before .before .before .before .before .before .before in
-    let inv = at-entry .before .before .before .before .before .loop .inv in
-    entry-low (inv .1 .0) (inv .1 .1) (at-entry .before .before .before .before .loop-test .taken) _ (at-entry .before .before .entry-at .ensures) _
-    (at-entry .entry .given .1)
-
-cast-self : tie.Need-cast-self Inv-loop μ-loop
-cast-self c =
-    let at-entry = c .before .before .before .before .before .before .before in
-    let inv = at-entry .before .before .before .before .before .loop .inv in
-    omega (
-      arith,
-      entry-low (inv .1 .0) (inv .1 .1) (at-entry .before .before .before .before .loop-test .taken) _
-          (at-entry .before .before .entry-at .ensures) _ (at-entry .entry .given .1),
-    )
+element-set-from-self c = element-copy-out-task (c .before .before .before .before .before .before)
 
 returns : tie.Need-returns Inv-loop μ-loop
 returns c =
-    let at-entry = c .before .before .before .before .before .before .before .before .before in
+    let at-entry = c .before .before .before .before .before .before .before .before in
     let at-loop = at-entry .before .before .before .before .before in
     let inv = at-loop .loop .inv in
     let start = at-loop .before in
     gives-as (start .args .form) refl (ap (λ (s : QoSScheduler). ruleP (start .args .core) (abs s)) (inv .0)) (pick-found (inv .1 .0) (inv .1 .1)
     (at-entry .before .before .before .before .loop-test .taken) _
-    (at-entry .before .before .entry-at .ensures) _ (at-entry .entry .given .1) _ (c .before .before .before .before .before .before .mask-permits .ensures)
-    (start .args .form) (start .args .previous) (start .pre .1) (c .before .before .before .before .before .if1 .taken)
-    (c .before .before .before .before .take-at .ensures) (c .before .before .picked .ensures) (c .before .who-runs .ensures) (c .done .ensures))
-
-add-place : tie.Need-add-place Inv-loop μ-loop
-add-place c =
-    let at-loop-test = c .before .before .before .before .before .before .before .before in
-    let inv = at-loop-test .before .loop .inv in
-    omega (
-      arith,
-      place-low (inv .1 .0) (inv .1 .1) (at-loop-test .loop-test .taken) _
-          (c .before .before .before .before .before .before .entry-at .ensures) _ (c .before .before .before .before .entry .given .1),
-    )
+    (at-entry .before .before .entry-at .ensures) _ (at-entry .entry .given .1) _ (c .before .before .before .before .before .mask-permits .ensures)
+    (start .args .form) (start .args .previous) (start .pre .1) (c .before .before .before .before .if1 .taken)
+    (c .before .before .before .take-at .ensures) (c .before .picked .ensures) (c .pick-answer .ensures))
 
 loop-less-2 : tie.Need-loop-less-2 Inv-loop μ-loop
 loop-less-2 c =
@@ -130,12 +87,12 @@ loop-again-2 c =
 
 returns-2 : tie.Need-returns-2 Inv-loop μ-loop
 returns-2 c =
-    let at-loop = c .before .before .before in
+    let at-loop = c .before .before in
     let inv = at-loop .loop .inv in
     let start = at-loop .before in
     gives-as (start .args .form) refl (ap (λ (s : QoSScheduler). ruleP (start .args .core) (abs s)) (inv .0))
-    (pick-none (inv .1 .0) (start .args .form) (start .args .previous) (start .pre .1) (inv .1 .1) (c .before .before .loop-test .left)
-    (c .before .who-runs2 .ensures) (c .done2 .ensures))
+    (pick-none (inv .1 .0) (start .args .form) (start .args .previous) (start .pre .1) (inv .1 .1) (c .before .loop-test .left)
+    (c .choice-answer .ensures))
 
 pub pick-spec : {M : Type 1} → statement M
 pick-spec =
@@ -152,24 +109,22 @@ pick-spec =
     (λ c. search needs)
     loop-again
     (λ c. search needs)
-    mul-task
+    (λ c. omega (arith, element-copy-out-task c))
     element-copy-out-task
     (λ c κs. search needs)
     take-at-requires
     (λ c. search needs)
     (λ c. search needs)
     (λ c κs. search needs)
-    mul-t29
+    (λ c. omega (arith, element-set-from-self c))
     element-set-from-self
-    cast-self
+    (λ c. omega (arith, element-set-from-self c))
     (λ c. search needs)
     (λ c κs. search needs)
-    (λ c κs. search needs)
     returns
-    add-place
+    (λ c. omega (arith, loop-less-2 c))
     loop-less-2
     loop-again-2
     (λ c. search needs)
-    (λ c κs. search needs)
     (λ c κs. search needs)
     returns-2)

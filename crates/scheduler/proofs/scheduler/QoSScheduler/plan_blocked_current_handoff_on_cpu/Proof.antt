@@ -14,14 +14,6 @@ returns-2 c =
     handoff-none (search needs) (search needs) _ (c .before .before .before .holder-of .ensures) (c .before .enum-told .given .1)
     (c .refused2 .ensures)
 
-mul-task : tie.Need-mul-task
-mul-task c =
-    omega (
-      arith,
-      holder-below (c .before .before .before .before .before .before .pre) (c .before .before .before .before .before .if1 .left) _
-          (c .before .before .before .holder-of .ensures) (c .before .previous .given .1),
-    )
-
 element-copy-out-task : tie.Need-element-copy-out-task
 element-copy-out-task c =
     holder-below (c .before .before .before .before .before .before .pre) (c .before .before .before .before .before .if1 .left) _
@@ -68,7 +60,7 @@ plan-blocked-current-handoff-on-cpu-spec =
     (λ c. search needs)
     (λ c κs. search needs)
     returns-2
-    mul-task
+    (λ c. omega (arith, element-copy-out-task c))
     element-copy-out-task
     (λ c. search needs)
     (λ c κs. search needs)

@@ -16,14 +16,6 @@ returns-2 : tie.Need-returns-2
 returns-2 c =
     yield-none (search needs) (search needs) _ (c .before .before .before .holder-of .ensures) (c .before .enum-told .given .1) (c .pick .ensures)
 
-mul-task : tie.Need-mul-task
-mul-task c =
-    omega (
-      arith,
-      holder-below (c .before .before .before .before .before .before .pre) (c .before .before .before .before .before .if1 .left) _
-          (c .before .before .before .holder-of .ensures) (c .before .previous .given .1),
-    )
-
 element-copy-out-task : tie.Need-element-copy-out-task
 element-copy-out-task c =
     holder-below (c .before .before .before .before .before .before .pre) (c .before .before .before .before .before .if1 .left) _
@@ -40,20 +32,8 @@ push-requires c κs =
     let at-pre = c .before .before .before .before .before .before .before .before .before .before .before in
     ring-below _ (at-pre .pre .whole) _ _ (search needs)
 
-mul-t21 : tie.Need-mul-t21
-mul-t21 c =
-    let at-previous = c .before .before .before .before .before .before .before .before .before in
-    omega (
-      arith,
-      holder-below (at-previous .before .before .before .before .before .pre) (at-previous .before .before .before .before .if1 .left) _
-          (at-previous .before .before .holder-of .ensures) (at-previous .previous .given .1),
-    )
-
 element-set-from-self : tie.Need-element-set-from-self
-element-set-from-self c =
-    let at-previous = c .before .before .before .before .before .before .before .before .before in
-    holder-below (at-previous .before .before .before .before .before .pre) (at-previous .before .before .before .before .if1 .left) _
-    (at-previous .before .before .holder-of .ensures) (at-previous .previous .given .1)
+element-set-from-self c = element-copy-out-task (c .before .before .before .before .before .before .before .before)
 
 pick-requires-2 : tie.Need-pick-requires-2
 pick-requires-2 c κs =
@@ -86,7 +66,7 @@ plan-voluntary-yield-on-cpu-spec =
     (λ c. search needs)
     (λ c κs. search needs)
     returns-2
-    mul-task
+    (λ c. omega (arith, element-copy-out-task c))
     element-copy-out-task
     (λ c κs. search needs)
     (λ c κs. search needs)
@@ -99,7 +79,7 @@ plan-voluntary-yield-on-cpu-spec =
     (λ c. search needs)
     (λ c. search needs)
     (λ c κs. search needs)
-    mul-t21
+    (λ c. omega (arith, element-set-from-self c))
     element-set-from-self
     (λ c. search needs)
     pick-requires-2

@@ -33,15 +33,6 @@ returns-2 c =
     tick-none (start .pre) _ (at-if1 .if1 .left) (at-if1 .before .wrapping-add-u64 .ensures) _ (c .before .before .before .holder-of .ensures)
     (start .args .form) (c .before .enum-told .given .1) (c .pick .ensures)
 
-mul-task : tie.Need-mul-task
-mul-task c =
-    let at-pre = c .before .before .before .before .before .before .before in
-    omega (
-      arith,
-      holder-below (at-pre .pre) (c .before .before .before .before .before .if1 .left) _ (c .before .before .before .holder-of .ensures)
-          (c .before .previous .given .1),
-    )
-
 element-copy-out-task : tie.Need-element-copy-out-task
 element-copy-out-task c =
     let at-pre = c .before .before .before .before .before .before .before in
@@ -68,46 +59,22 @@ waits-before-requires c κs =
     let at-if1 = c .before .before .before .before .before .before .before .before .before .before .before in
     later-valid (at-if1 .before .before .pre) _ (at-if1 .if1 .left) (at-if1 .before .wrapping-add-u64 .ensures)
 
-mul-t44 : tie.Need-mul-t44
-mul-t44 c =
-    let at-previous = c .before .before .before .before .before .before .before .before .before .before in
-    omega (
-      arith,
-      holder-below (at-previous .before .before .before .before .before .before .pre) (at-previous .before .before .before .before .if1 .left) _
-          (at-previous .before .before .holder-of .ensures) (at-previous .previous .given .1),
-    )
-
 element-set-from-self : tie.Need-element-set-from-self
-element-set-from-self c =
-    let at-previous = c .before .before .before .before .before .before .before .before .before .before in
-    holder-below (at-previous .before .before .before .before .before .before .pre) (at-previous .before .before .before .before .if1 .left) _
-    (at-previous .before .before .holder-of .ensures) (at-previous .previous .given .1)
+element-set-from-self c = element-copy-out-task (c .before .before .before .before .before .before .before .before .before)
 
 returns-4 : tie.Need-returns-4
 returns-4 c =
-    let at-if2 = c .before .before .before .before .before .before .before .before in
+    let at-if2 = c .before .before .before .before .before .before .before in
     let at-if1 = at-if2 .before .before .before .before .before .before .before .before in
     let start = at-if1 .before .before in
     tick-stays (start .pre) _ (at-if1 .if1 .left) (at-if1 .before .wrapping-add-u64 .ensures) _
     (at-if2 .before .before .before .before .before .before .holder-of .ensures) _ (at-if2 .before .before .before .before .previous .given .1) _
-    (sym (at-if2 .before .is .ensures) ∙ at-if2 .if2 .left) (start .args .form) (c .before .before .before .before .before .if3 .taken)
-    (sym (c .before .before .before .before .waits-before .ensures) ∙ not-true _ (c .before .before .before .if4 .taken))
-    (c .before .before .with-consumed .ensures) (c .before .who-runs2 .ensures) (c .done .ensures)
-
-mul-t52 : tie.Need-mul-t52
-mul-t52 c =
-    let at-previous = c .before .before .before .before .before .before .before .before .before .before in
-    omega (
-      arith,
-      holder-below (at-previous .before .before .before .before .before .before .pre) (at-previous .before .before .before .before .if1 .left) _
-          (at-previous .before .before .holder-of .ensures) (at-previous .previous .given .1),
-    )
+    (sym (at-if2 .before .is .ensures) ∙ at-if2 .if2 .left) (start .args .form) (c .before .before .before .before .if3 .taken)
+    (sym (c .before .before .before .waits-before .ensures) ∙ not-true _ (c .before .before .if4 .taken))
+    (c .before .with-consumed .ensures) (c .choice-answer .ensures)
 
 element-set-from-self-2 : tie.Need-element-set-from-self-2
-element-set-from-self-2 c =
-    let at-previous = c .before .before .before .before .before .before .before .before .before .before in
-    holder-below (at-previous .before .before .before .before .before .before .pre) (at-previous .before .before .before .before .if1 .left) _
-    (at-previous .before .before .holder-of .ensures) (at-previous .previous .given .1)
+element-set-from-self-2 c = element-copy-out-task (c .before .before .before .before .before .before .before .before .before)
 
 pick-requires-3 : tie.Need-pick-requires-3
 pick-requires-3 c κs =
@@ -137,20 +104,10 @@ push-requires c κs =
     let at-pre = c .before .before .before .before .before .before .before .before .before .before .before .before .before .before .before .before .before in
     ring-below _ (at-pre .pre .whole) _ _ (search needs)
 
-mul-t29 : tie.Need-mul-t29
-mul-t29 c =
-    let at-previous = c .before .before .before .before .before .before .before .before .before .before .before .before .before .before .before in
-    omega (
-      arith,
-      holder-below (at-previous .before .before .before .before .before .before .pre) (at-previous .before .before .before .before .if1 .left) _
-          (at-previous .before .before .holder-of .ensures) (at-previous .previous .given .1),
-    )
-
 element-set-from-self-3 : tie.Need-element-set-from-self-3
 element-set-from-self-3 c =
-    let at-previous = c .before .before .before .before .before .before .before .before .before .before .before .before .before .before .before in
-    holder-below (at-previous .before .before .before .before .before .before .pre) (at-previous .before .before .before .before .if1 .left) _
-    (at-previous .before .before .holder-of .ensures) (at-previous .previous .given .1)
+    let at-task = c .before .before .before .before .before .before .before .before .before .before .before .before .before in
+    element-copy-out-task (at-task .before)
 
 pick-requires-4 : tie.Need-pick-requires-4
 pick-requires-4 c κs =
@@ -196,7 +153,7 @@ ticked-spec =
     (λ c. search needs)
     pick-requires
     returns-2
-    mul-task
+    (λ c. omega (arith, element-copy-out-task c))
     element-copy-out-task
     (λ c κs. search needs)
     (λ c. search needs)
@@ -208,14 +165,13 @@ ticked-spec =
     waits-before-requires
     (λ c. search needs)
     (λ c κs. search needs)
-    mul-t44
+    (λ c. omega (arith, element-set-from-self c))
     element-set-from-self
-    (λ c κs. search needs)
     (λ c κs. search needs)
     returns-4
     (λ c κs. search needs)
     (λ c κs. search needs)
-    mul-t52
+    (λ c. omega (arith, element-set-from-self-2 c))
     element-set-from-self-2
     pick-requires-3
     returns-5
@@ -228,7 +184,7 @@ ticked-spec =
     (λ c. search needs)
     (λ c κs. search needs)
     (λ c κs. search needs)
-    mul-t29
+    (λ c. omega (arith, element-set-from-self-3 c))
     element-set-from-self-3
     pick-requires-4
     returns-6)

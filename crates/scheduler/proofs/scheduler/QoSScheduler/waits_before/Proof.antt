@@ -29,15 +29,6 @@ loop-again c =
           (omega arith) _ (c .before .before .entry-at .ensures) (c .enum-told .given .1),
     )
 
-mul-task : tie.Need-mul-task Inv-loop μ-loop
-mul-task c =
-    let at-pre = c .before .before .before .before .before .before .before .before in
-    omega (
-      arith,
-      entry-low (at-pre .pre) (c .before .before .before .before .before .before .loop .inv .1) (omega arith) _
-          (c .before .before .before .entry-at .ensures) _ (c .before .entry .given .1),
-    )
-
 element-copy-out-task : tie.Need-element-copy-out-task Inv-loop μ-loop
 element-copy-out-task c =
     let at-pre = c .before .before .before .before .before .before .before .before in
@@ -50,15 +41,6 @@ returns c =
     test-found (at-loop .before .before .pre) (at-loop .loop .inv .1) (omega arith) _
     (c .before .before .before .before .before .before .entry-at .ensures) _ (c .before .before .before .before .entry .given .1) _
     (c .before .mask-permits .ensures) (at-loop .before .before .args .qos) (omega (arith, at-loop .before .code .ensures .is)) (c .if1 .taken)
-
-add-place : tie.Need-add-place Inv-loop μ-loop
-add-place c =
-    let at-loop = c .before .before .before .before .before .before .before .before .before in
-    omega (
-      arith,
-      place-low (at-loop .before .before .pre) (at-loop .loop .inv .1) (omega arith) _
-          (c .before .before .before .before .before .before .entry-at .ensures) _ (c .before .before .before .before .entry .given .1),
-    )
 
 loop-less-2 : tie.Need-loop-less-2 Inv-loop μ-loop
 loop-less-2 c =
@@ -100,11 +82,11 @@ waits-before-spec =
     (λ c. search needs)
     loop-again
     (λ c. search needs)
-    mul-task
+    (λ c. omega (arith, element-copy-out-task c))
     element-copy-out-task
     (λ c κs. search needs)
     returns
-    add-place
+    (λ c. omega (arith, loop-less-2 c))
     loop-less-2
     loop-again-2
     returns-2)
