@@ -160,20 +160,20 @@ module _ (s : QoSScheduler) (v : Valid s) where
   image-over image {o₁} {o₂} first second d a same e₁ e₂ =
       let old = stateAt image in
       let size : length (old .tasks) ≡ 64 = length-tasks image in
-      let i = first % 64 in
-      let j = second % 64 in
-      let t = getD (s .tasks) i d in
-      let u = getD (s .tasks) j d in
-      let one : o₁ ≡ imageOf (withTask old i t) =
-      e₁ ∙ ap (λ (l : List ℕ). sets l (recordPlace i) (recordBytes t)) (sym (writes-back image a)) ∙ record-stored old i t (omega (arith, size)) in
-      let two : o₂ ≡ imageOf (withTask (withTask old i t) j u) =
-      e₂ ∙ ap (λ (l : List ℕ). sets l (recordPlace j) (recordBytes u)) one
-      ∙ record-stored (withTask old i t) j u (omega (arith, size, length-set (old .tasks) i t)) in
-      let whole : set (set (old .tasks) i t) j u ≡ s .tasks =
-      set-two emptyRecord d (old .tasks) (s .tasks) i j (size ∙ sym (v .accepted .slots)) (omega (arith, size)) (omega (arith, size))
-      (λ k low not-one not-two. same k (λ e. not-one (omega (arith, e, low, size))) (λ e. not-two (omega (arith, e, low, size)))) in
+      let one = first % 64 in
+      let other = second % 64 in
+      let t = getD (s .tasks) one d in
+      let u = getD (s .tasks) other d in
+      let first-is : o₁ ≡ imageOf (withTask old one t) =
+      e₁ ∙ ap (λ (l : List ℕ). sets l (recordPlace one) (recordBytes t)) (sym (writes-back image a)) ∙ record-stored old one t (omega (arith, size)) in
+      let second-is : o₂ ≡ imageOf (withTask (withTask old one t) other u) =
+      e₂ ∙ ap (λ (l : List ℕ). sets l (recordPlace other) (recordBytes u)) first-is
+      ∙ record-stored (withTask old one t) other u (omega (arith, size, length-set (old .tasks) one t)) in
+      let whole : set (set (old .tasks) one t) other u ≡ s .tasks =
+      set-two emptyRecord d (old .tasks) (s .tasks) one other (size ∙ sym (v .accepted .slots)) (omega (arith, size)) (omega (arith, size))
+      (λ k low not-one not-other. same k (λ e. not-one (omega (arith, e, low, size))) (λ e. not-other (omega (arith, e, low, size)))) in
       let rest = flatten (drop 1 (imageParts old)) in
-      let all : o₂ ≡ recordsBytes (s .tasks) ++ rest = two ∙ ap (λ (ts : List TaskControlBlock). recordsBytes ts ++ rest) whole in
+      let all : o₂ ≡ recordsBytes (s .tasks) ++ rest = second-is ∙ ap (λ (ts : List TaskControlBlock). recordsBytes ts ++ rest) whole in
       image-put o₂ (ap length e₂ ∙ length-sets o₁ _ (recordBytes u) ∙ ap length e₁ ∙ length-sets image _ (recordBytes t) ∙ a .length-is)
       (sym (ap (λ (l : List ℕ). sets l 0 (recordsBytes (s .tasks))) all ∙ sets-over (recordsBytes (s .tasks)) rest (recordsBytes (s .tasks)) refl ∙ sym all))
 
