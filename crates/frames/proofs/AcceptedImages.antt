@@ -4,10 +4,10 @@ use mathlib.Core.Path.{_≡_, refl, sym, ap, subst, _∙_}
 use mathlib.Core.List.{List, [], _∷_, _++_, flatten}
 use mathlib.Core.Logic.{⊎-elim, Iff·rfl, Iff·trans}
 use Prim.Native.Nat.{ℕ, zero, suc, _-_, _≤_, _<_}
+use native.Mathlib.Numerals.{one-add}
 use native.Mathlib.Omega.{arith}
 use lib.Dec.{ltb}
 use lib.ListN.{length, getD, drop, replicate, length-take, List·getD-eq-default}
-use lib.Seq.{getD-take}
 use Rattle.records.specs.declared.band.QoSClass.{QoSClass}
 use Rattle.records.specs.declared.band.QoSClass.the-variants.{UserInteractive, RealTimeIO, Background}
 use Rattle.records.specs.declared.task.TaskControlBlock.{TaskControlBlock}
@@ -20,7 +20,8 @@ use Rattle.rules.specs.Accepted.{Accepted, ReadyOf}
 use Rattle.rules.specs.Paper.{recordNumbers}
 use Rattle.rules.specs.State.{State, noneByte, task, queue, holder}
 use Rattle.rules.proofs.Invariant.{ready-in-table, used-in-table, accepted-invariant}
-use Rattle.rules.proofs.Says.{Says, equal, less, at-most, same-flag, same-state, both, either, never, implies, by-place, all-of, below, each, bands, ready-of, may-hold}
+use Rattle.rules.proofs.Says.{Says, equal, less, at-most, same-flag, same-state, ready-of, may-hold}
+use Rattle.rules.proofs.Says.{both, either, never, implies, by-place, all-of, below, each, bands}
 use Rattle.frames.specs.AcceptedImage.{AcceptedBase, AcceptedImage, slotFits, placeFits, bandFits, coreFits, acceptsBase, acceptsImage}
 use Rattle.frames.specs.Answer.{recordWidths, recordBytes}
 use Rattle.frames.specs.Bytes.{AllBytes, numbersAt}
@@ -29,36 +30,32 @@ use Rattle.frames.specs.Image.{queueLength, baseLength, queuePlace, hold
 use Rattle.frames.specs.Image.{lengthByte, slotByte, queueIn, stateAt, recordAt, queueAt, FitsImage, FitsRecord}
 use Rattle.frames.proofs.Elements.{each-append, each-flatten, each-at}
 use Rattle.frames.proofs.Numbers.{bytesOf-bytes, written-bytes}
-use Rattle.frames.proofs.Widths.{length-part, numbersAt-written}
+use Rattle.frames.proofs.Widths.{length-part, getD-part, numbersAt-written}
 use Rattle.frames.proofs.Images.{flagNumber-small, length-tasks, queue-read, getD-zeros, record-at, queue-at, length-imageOf, reads-back}
 
--- ---- the queues of bytes that are long enough
+-- ---- a queue that is read
 
--- the length byte bounds a queue that is read
+-- the length byte bounds it
 pub length-queueIn : (bytes : List ℕ) → length (queueIn bytes) ≤ lengthByte bytes
 length-queueIn bytes = rw (length-take (lengthByte bytes) (drop 1 bytes)) (omega arith)
 
--- the slot bytes stand behind the length byte
-getD-tail : (bytes : List ℕ) (place : ℕ) → getD (drop 1 bytes) place 0 ≡ slotByte place bytes
-getD-tail [] place = refl
-getD-tail (b ∷ bytes) place = refl
-
 -- an entry that is read is its slot byte
 pub entry-read : (bytes : List ℕ) (place : ℕ) → place < lengthByte bytes → getD (queueIn bytes) place 0 ≡ slotByte place bytes
-entry-read bytes place h = getD-take (lengthByte bytes) (drop 1 bytes) place 0 h ∙ getD-tail bytes place
+entry-read bytes place h = getD-part 1 (lengthByte bytes) bytes place 0 h ∙ ap (λ (n : ℕ). getD bytes n 0) (one-add place)
 
 -- the same for the three of a state that is read
 pub entry-is : (image : List ℕ) (band : QoSClass) (place : ℕ) → place < lengthByte (queueAt band image) →
     getD (queue (stateAt image) band) place 0 ≡ slotByte place (queueAt band image)
 entry-is image band place h = rw (queue-read image band) (entry-read (queueAt band image) place h)
 
+-- ---- the test and the conditions
+
 module _ (image : List ℕ) (long : baseLength ≤ length image) where
+  -- a length byte of at most 64 is the length of its queue
   pub entries-are : (band : QoSClass) → lengthByte (queueAt band image) ≤ 64 → length (queue (stateAt image) band) ≡ lengthByte (queueAt band image)
   entries-are band small =
       let room : length (queueAt band image) ≡ queueLength = length-part (queuePlace band) queueLength image (omega (arith, bandCode-small band)) in
       ap length (queue-read image band) ∙ length-part 1 (lengthByte (queueAt band image)) (queueAt band image) (omega arith)
-
-  -- ---- the test and the conditions
 
   -- the test passes exactly the bases that are accepted
   pub accepts-base : Says (acceptsBase image) (AcceptedBase image)
@@ -96,7 +93,8 @@ module _ (image : List ℕ) (long : baseLength ≤ length image) where
             let entries : (band : QoSClass) (place : ℕ) → place < lengthByte (queueAt band image) →
             ReadyOf band (task (stateAt image) (slotByte place (queueAt band image))) =
             λ band place h. rw (entry-is image band place h) at (s .entries band place (omega (arith, entries-are band (a .lengths band)))) in
-            search (a .bands, a .states, a .in-uses, a .lengths, a .unused, entries, s .in-use, s .masks, s .once, s .holders, s .budgets, s .consumed) depth 10,
+            search (a .bands, a .states, a .in-uses, a .lengths, a .unused, entries, s .in-use, s .masks, s .once, s .holders, s .budgets, s .consumed)
+            depth 10,
       )
 
 -- the test passes exactly the images that are accepted
@@ -133,17 +131,14 @@ queue-bytes es few low =
     (omega arith, each-append _ es zeros entries unused)
 
 module _ (s : State) (a : Accepted s) where
-  -- every entry is a slot, every holder a slot or 255
-  entry-small : (band : QoSClass) (place : ℕ) → place < length (queue s band) → getD (queue s band) place 0 < 64
-  entry-small band place h =
-      ready-in-table s (a .slots) (getD (queue s band) place 0) (a .entries band place h .ready)
-
+  -- every holder is a slot or 255, every entry a slot
   pub holder-small : (core : ℕ) → holder s core < 256
   holder-small core =
       ⊎-elim (λ none. omega arith) (λ m. omega (arith, used-in-table s (a .slots) (holder s core) (m .used))) (accepted-invariant s a .held core)
 
   band-bytes : (band : QoSClass) → AllBytes (queueBytes (queue s band))
-  band-bytes band = queue-bytes (queue s band) (a .lengths band) (entry-small band)
+  band-bytes band =
+      queue-bytes (queue s band) (a .lengths band) (λ place h. ready-in-table s (a .slots) (getD (queue s band) place 0) (a .entries band place h .ready))
 
   queues-bytes : AllBytes (queuesBytes (s .queues))
   unfolding queuesBytes Each
@@ -166,11 +161,6 @@ slotByte-is place es = padded es place where
   padded (e ∷ l) zero = refl
   padded (e ∷ l) (suc i) = padded l i
 
--- its length byte
-lengthByte-is : (es : List ℕ) → lengthByte (queueBytes es) ≡ length es
-unfolding queueBytes
-lengthByte-is es = refl
-
 module _ (s : State) (a : Accepted s) (fits : FitsImage s) where
   -- a number of a slot's record, as it stands in the image
   number-is : (slot : ℕ) → slot < 64 → (i : ℕ) →
@@ -184,7 +174,8 @@ module _ (s : State) (a : Accepted s) (fits : FitsImage s) where
 
   -- the length byte and the slot bytes of a band's queue, as they stand there
   length-is : (band : QoSClass) → lengthByte (queueAt band (imageOf s)) ≡ length (queue s band)
-  length-is band = ap lengthByte (queue-at s (a .slots) (a .lengths) band) ∙ lengthByte-is (queue s band)
+  unfolding queueBytes
+  length-is band = ap lengthByte (queue-at s (a .slots) (a .lengths) band)
 
   slot-is : (band : QoSClass) (place : ℕ) → slotByte place (queueAt band (imageOf s)) ≡ getD (queue s band) place 0
   slot-is band place = ap (slotByte place) (queue-at s (a .slots) (a .lengths) band) ∙ slotByte-is place (queue s band)

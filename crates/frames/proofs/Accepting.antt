@@ -10,7 +10,7 @@ use native.Mathlib.Omega.{arith}
 use borrow.Author.Tests.{not-true, not-false, lt-ltb, le-ltb, le-leb, lt-leb, eq-eqb, ne-eqb}
 use lib.Dec.{ltb, eqb}
 use lib.ListN.{length, getD, take, drop, length-drop}
-use lib.Seq.{getD-take, getD-drop, take-suc}
+use lib.Seq.{getD-drop, take-suc}
 use Rattle.records.specs.declared.band.QoSClass.{QoSClass}
 use Rattle.records.specs.declared.band.QoSClass.the-variants.{UserInteractive, RealTimeIO, Background}
 use Rattle.records.specs.declared.state.ThreadState.the-variants.{Ready}
@@ -29,12 +29,9 @@ use Rattle.frames.specs.Private.{allZero, LengthsFit}
 use Rattle.frames.proofs.Images.{task-read, task-past, holder-byte}
 use Rattle.frames.proofs.AcceptedImages.{entry-is, entries-are}
 use Rattle.frames.proofs.Passing.{Passing, zero-snoc, fails, holds}
+use Rattle.frames.proofs.Widths.{getD-part}
 
 -- ---- the state of an image
-
--- an element of a part
-getD-part : (at n : ℕ) (l : List ℕ) (i d : ℕ) → i < n → getD (part at n l) i d ≡ getD l (at + i) d
-getD-part at n l i d h = getD-take n (drop at l) i d h ∙ getD-drop at l i d
 
 module _ (image : List ℕ) where
   -- the record that was read for a slot

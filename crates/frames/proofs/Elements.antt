@@ -1,4 +1,4 @@
--- What holds of each element of a list (`Each`): of its parts, of two and of many lists together, wherever the list is read, and after a store. Assumes nothing.
+-- What holds of each element of a list (`Each`): of its parts, of lists together, wherever the list is read, and after a store. Assumes nothing.
 use mathlib.Core.List.{List, [], _∷_, _++_, flatten}
 use Prim.Native.Nat.{ℕ, zero, suc, _<_}
 use native.Mathlib.Omega.{arith}

@@ -1,21 +1,21 @@
 -- Document 01, "Task record, queues, holders": the image. Where each part of a state stands in its image, and that writing then reading gives the
 -- same state (`reads-back`), as reading then writing gives the same bytes (`writes-back`).
 -- Assumes nothing.
-use mathlib.Core.Path.{_≡_, refl, sym, ap, subst, _∙_}
+use mathlib.Core.Path.{_≡_, refl, sym, ap, _∙_}
 use mathlib.Core.Bool.{Bool, true, false}
 use mathlib.Core.List.{List, [], _∷_, _++_, map, flatten}
-use Prim.Native.Nat.{ℕ, zero, suc, _+_, _-_, _*_, _≤_, _<_}
+use Prim.Native.Nat.{ℕ, zero, suc, _+_, _-_, _*_, _≤_, _<_, _^_}
 use native.Mathlib.Nat.{zero-add}
 use native.Mathlib.Omega.{arith}
 use lib.Dec.{eqb}
-use lib.ListN.{length, getD, take, drop, replicate, length-append, length-drop, length-map, length-replicate, take-append-drop, List·getD-eq-default, List·getD-map}
-use lib.Seq.{take-all, take-take, take-append-seam, length-take-le, getD-take, getD-drop, ext-getD}
+use lib.ListN.{length, getD, take, drop, replicate, length-append, length-drop, take-append-drop, List·getD-eq-default}
+use lib.Seq.{take-all, take-at, drop-at, take-add, take-append-seam, drop-drop, length-take-le, getD-drop, ext-getD}
 use Rattle.records.specs.declared.band.QoSClass.{QoSClass}
 use Rattle.records.specs.declared.band.QoSClass.the-variants.{UserInteractive, RealTimeIO, Background}
 use Rattle.records.specs.declared.state.ThreadState.{ThreadState}
 use Rattle.records.specs.declared.task.TaskControlBlock.{TaskControlBlock}
 use Rattle.records.specs.Band.{bandCode}
-use Rattle.records.specs.Lists.{Each}
+use Rattle.records.specs.Lists.{Each, everyBelow}
 use Rattle.records.specs.ThreadState.{stateCode}
 use Rattle.records.specs.Task.{emptyRecord}
 use Rattle.records.proofs.Bands.{bandCode-small, codedBand-code}
@@ -26,17 +26,20 @@ use Rattle.rules.specs.Accepted.{Accepted}
 use Rattle.rules.specs.Paper.{recordNumbers, flagNumber}
 use Rattle.rules.specs.State.{State, Queues, bandOrder, noneByte, task, ofBand, queue, holder}
 use Rattle.rules.proofs.Invariant.{no-holder}
+use Rattle.rules.proofs.Says.{equal, below}
 use Rattle.scheduler.proofs.Arrays.{read-any}
 use Rattle.frames.specs.AcceptedImage.{AcceptedBase, AcceptedImage, bandByte, stateByte, inUseByte}
 use Rattle.frames.specs.Answer.{recordWidths, recordBytes}
-use Rattle.frames.specs.Bytes.{AllBytes, bytesOf, bigEndian, part, partsAt, total}
-use Rattle.frames.specs.Image.{recordLength, queueLength, partLengths, imageLength, baseLength, partAt, recordPlace, queuesPlace, queuePlace, holdersPlace, microsPlace}
-use Rattle.frames.specs.Image.{recordsBytes, queueBytes, queuesBytes, imageParts, imageOf, orEmptyBand, bandOf, orEmptyState, stateOf, recordFrom, recordIn, recordsIn}
-use Rattle.frames.specs.Image.{lengthByte, slotByte, queueIn, queueOf, queuesIn, stateAt, recordAt, queueAt, FitsImage, FitsRecord}
+use Rattle.frames.specs.Bytes.{AllBytes, bytesOf, bigEndian, part, numberAt, total}
+use Rattle.frames.specs.Image.{recordLength, queueLength, partLengths, imageParts, imageOf, partAt, stateAt}
+use Rattle.frames.specs.Image.{imageLength, baseLength, recordPlace, queuesPlace, queuePlace, holdersPlace, microsPlace, recordAt, queueAt}
+use Rattle.frames.specs.Image.{orEmptyBand, bandOf, orEmptyState, stateOf, recordFrom, recordIn, recordsIn, recordsBytes, FitsRecord}
+use Rattle.frames.specs.Image.{lengthByte, slotByte, queueIn, queueBytes, queuesBytes, FitsImage}
 use Rattle.frames.proofs.Elements.{each-at}
 use Rattle.frames.proofs.Numbers.{length-bytesOf, bigEndian-bytesOf}
 use Rattle.frames.proofs.Sizes.{length-recordBytes}
-use Rattle.frames.proofs.Widths.{length-part, bytes-part, part-within, part-of, flatten-parts, length-parts, length-flatten, bytesOf-numberAt, numbersAt-written, written-numbersAt}
+use Rattle.frames.proofs.Widths.{length-part, getD-part, bytes-part, part-within, part-of, partsAt, flatten-parts, length-flatten}
+use Rattle.frames.proofs.Widths.{bytesOf-numberAt, numbersAt-written, written-numbersAt}
 
 -- ---- codes
 
@@ -45,20 +48,15 @@ pub bandOf-code : (band : QoSClass) → bandOf (bandCode band) ≡ band
 bandOf-code band = ap orEmptyBand (codedBand-code band)
 
 pub bandCode-of : (code : ℕ) → code < 3 → bandCode (bandOf code) ≡ code
-bandCode-of zero h = refl
-bandCode-of (suc zero) h = refl
-bandCode-of (suc (suc zero)) h = refl
-bandCode-of (suc (suc (suc code))) h = absurd (omega (arith, h))
+unfolding everyBelow
+bandCode-of = below (λ code. equal {a = bandCode (bandOf code)} {b = code}) {n = 3} .0 refl
 
 pub stateOf-code : (state : ThreadState) → stateOf (stateCode state) ≡ state
 stateOf-code state = ap orEmptyState (codedState-code state)
 
 pub stateCode-of : (code : ℕ) → code < 4 → stateCode (stateOf code) ≡ code
-stateCode-of zero h = refl
-stateCode-of (suc zero) h = refl
-stateCode-of (suc (suc zero)) h = refl
-stateCode-of (suc (suc (suc zero))) h = refl
-stateCode-of (suc (suc (suc (suc code)))) h = absurd (omega (arith, h))
+unfolding everyBelow
+stateCode-of = below (λ code. equal {a = stateCode (stateOf code)} {b = code}) {n = 4} .0 refl
 
 pub flagNumber-small : (flag : Bool) → flagNumber flag < 2
 flagNumber-small true = omega arith
@@ -69,9 +67,8 @@ flag-number true = refl
 flag-number false = refl
 
 flagNumber-of : (code : ℕ) → code < 2 → flagNumber (eqb code 1) ≡ code
-flagNumber-of zero h = refl
-flagNumber-of (suc zero) h = refl
-flagNumber-of (suc (suc code)) h = absurd (omega (arith, h))
+unfolding everyBelow
+flagNumber-of = below (λ code. equal {a = flagNumber (eqb code 1)} {b = code}) {n = 2} .0 refl
 
 -- ---- a record
 
@@ -94,82 +91,53 @@ recordBytes-recordIn bytes h long band state in-use =
 
 -- ---- the records
 
--- where each begins, and how long they are together: 47 bytes each
-record-places : (ts : List TaskControlBlock) (slot : ℕ) → slot ≤ length ts → total (take slot (map length (map recordBytes ts))) ≡ recordLength * slot
-record-places ts zero h = refl
-record-places [] (suc slot) h = absurd (omega arith)
-record-places (t ∷ ts) (suc slot) h = omega (arith, length-recordBytes t, record-places ts slot (omega arith))
-
+-- 47 bytes each
 pub length-recordsBytes : (ts : List TaskControlBlock) → length (recordsBytes ts) ≡ recordLength * length ts
 unfolding recordsBytes flatten
 length-recordsBytes [] = refl
 length-recordsBytes (t ∷ ts) = length-append (recordBytes t) (recordsBytes ts) ∙ omega (arith, length-recordBytes t, length-recordsBytes ts)
 
+-- the next slot's place is the same slot's behind the first
+recordAt-suc : (slot : ℕ) (bytes : List ℕ) → recordAt (suc slot) bytes ≡ recordAt slot (drop recordLength bytes)
+recordAt-suc slot bytes =
+    let place : recordPlace (suc slot) ≡ recordLength + recordPlace slot = omega arith in
+    ap (λ (n : ℕ). part n recordLength bytes) place ∙ ap (take recordLength) (sym (drop-drop (recordPlace slot) recordLength bytes))
+
 -- the record of a slot stands at its place
 record-in : (ts : List TaskControlBlock) (slot : ℕ) (d : TaskControlBlock) → slot < length ts → recordAt slot (recordsBytes ts) ≡ recordBytes (getD ts slot d)
-unfolding recordsBytes
-record-in ts slot d l =
-    let inside : slot < length (map recordBytes ts) = omega (arith, length-map ts recordBytes) in
-    let is : getD (map recordBytes ts) slot [] ≡ recordBytes (getD ts slot d) =
-    read-any (map recordBytes ts) slot [] (recordBytes d) inside ∙ List·getD-map recordBytes ts slot d in
-    part-of (map recordBytes ts) slot (recordPlace slot) inside (record-places ts slot (omega arith)) (ap length is ∙ length-recordBytes (getD ts slot d)) ∙ is
+unfolding recordsBytes flatten
+record-in [] slot d l = absurd (omega arith)
+record-in (t ∷ ts) zero d l = take-at (recordBytes t) (recordsBytes ts) recordLength (length-recordBytes t)
+record-in (t ∷ ts) (suc slot) d l =
+    recordAt-suc slot (recordsBytes (t ∷ ts))
+    ∙ ap (recordAt slot) (drop-at (recordBytes t) (recordsBytes ts) recordLength (length-recordBytes t))
+    ∙ record-in ts slot d (omega arith)
+
+-- records that have each slot's bytes have them all
+records-are : (ts : List TaskControlBlock) (bytes : List ℕ) → ((slot : ℕ) → slot < length ts → recordBytes (getD ts slot emptyRecord) ≡ recordAt slot bytes) →
+    recordsBytes ts ≡ take (recordLength * length ts) bytes
+unfolding recordsBytes flatten
+records-are [] bytes same = refl
+records-are (t ∷ ts) bytes same =
+    let long : recordLength + recordLength * length ts ≡ recordLength * suc (length ts) = omega arith in
+    let others = records-are ts (drop recordLength bytes) (λ slot l. same (suc slot) (omega arith) ∙ recordAt-suc slot bytes) in
+    (λ i. same 0 (omega arith) i ++ others i) ∙ sym (take-add recordLength (recordLength * length ts) bytes) ∙ ap (λ (n : ℕ). take n bytes) long
 
 -- so many are read, and each from its slot's bytes
 length-recordsIn : (n : ℕ) (bytes : List ℕ) → length (recordsIn n bytes) ≡ n
 unfolding recordsIn
-length-recordsIn n bytes =
-    length-map (partsAt 0 (replicate n recordLength) bytes) recordIn ∙ length-parts 0 (replicate n recordLength) bytes ∙ length-replicate n recordLength
-
-slot-part : (at n : ℕ) (bytes : List ℕ) (slot : ℕ) → slot < n →
-    getD (partsAt at (replicate n recordLength) bytes) slot [] ≡ part (at + recordPlace slot) recordLength bytes
-slot-part at zero bytes slot l = absurd (omega arith)
-slot-part at (suc n) bytes zero l = let here : at ≡ at + recordPlace 0 = omega arith in ap (λ (k : ℕ). part k recordLength bytes) here
-slot-part at (suc n) bytes (suc slot) l =
-    let next : at + recordLength + recordPlace slot ≡ at + recordPlace (suc slot) = omega arith in
-    slot-part (at + recordLength) n bytes slot (omega arith) ∙ ap (λ (k : ℕ). part k recordLength bytes) next
-
-slot-bytes : (n : ℕ) (bytes : List ℕ) (slot : ℕ) → slot < n → getD (partsAt 0 (replicate n recordLength) bytes) slot [] ≡ recordAt slot bytes
-slot-bytes n bytes slot l = slot-part 0 n bytes slot l ∙ ap (λ (k : ℕ). part k recordLength bytes) (zero-add (recordPlace slot))
+length-recordsIn zero bytes = refl
+length-recordsIn (suc n) bytes = ap suc (length-recordsIn n (drop recordLength bytes))
 
 getD-recordsIn : (n : ℕ) (bytes : List ℕ) (slot : ℕ) (d : TaskControlBlock) → slot < n → getD (recordsIn n bytes) slot d ≡ recordIn (recordAt slot bytes)
 unfolding recordsIn
-getD-recordsIn n bytes slot d l =
-    read-any (recordsIn n bytes) slot d (recordIn []) (omega (arith, length-recordsIn n bytes))
-    ∙ List·getD-map recordIn (partsAt 0 (replicate n recordLength) bytes) slot []
-    ∙ ap recordIn (slot-bytes n bytes slot l)
+getD-recordsIn zero bytes slot d l = absurd (omega (arith, l))
+getD-recordsIn (suc n) bytes zero d l = refl
+getD-recordsIn (suc n) bytes (suc slot) d l = getD-recordsIn n (drop recordLength bytes) slot d (omega (arith, l)) ∙ ap recordIn (sym (recordAt-suc slot bytes))
 
--- written, and read back
-recordsIn-recordsBytes : (ts : List TaskControlBlock) → Each FitsRecord ts → recordsIn (length ts) (recordsBytes ts) ≡ ts
-recordsIn-recordsBytes ts fit =
-    let n = length ts in
-    ext-getD emptyRecord (recordsIn n (recordsBytes ts)) ts (length-recordsIn n (recordsBytes ts)) (λ slot low.
-    let l : slot < n = omega (arith, low, length-recordsIn n (recordsBytes ts)) in
-    getD-recordsIn n (recordsBytes ts) slot emptyRecord l
-    ∙ ap recordIn (record-in ts slot emptyRecord l)
-    ∙ recordIn-recordBytes (getD ts slot emptyRecord) (each-at FitsRecord ts slot emptyRecord fit l))
+-- ---- the state that bytes stand for
 
--- read, and written again
-same-again : (parts : List (List ℕ)) → ((k : ℕ) → k < length parts → recordBytes (recordIn (getD parts k [])) ≡ getD parts k []) →
-    map recordBytes (map recordIn parts) ≡ parts
-same-again [] same = refl
-same-again (bytes ∷ parts) same = λ i. same 0 (omega arith) i ∷ same-again parts (λ k h. same (suc k) (omega arith)) i
-
-total-records : (n : ℕ) → total (replicate n recordLength) ≡ recordLength * n
-total-records zero = refl
-total-records (suc n) = omega (arith, total-records n)
-
-recordsBytes-recordsIn : (n : ℕ) (bytes : List ℕ) → ((slot : ℕ) → slot < n → recordBytes (recordIn (recordAt slot bytes)) ≡ recordAt slot bytes) →
-    recordsBytes (recordsIn n bytes) ≡ take (recordLength * n) bytes
-unfolding recordsIn recordsBytes
-recordsBytes-recordsIn n bytes same =
-    let widths = replicate n recordLength in
-    ap flatten (same-again (partsAt 0 widths bytes) (λ slot h.
-    let l : slot < n = omega (arith, h, length-parts 0 widths bytes, length-replicate n recordLength) in
-    subst (λ (piece : List ℕ). recordBytes (recordIn piece) ≡ piece) (sym (slot-bytes n bytes slot l)) (same slot l)))
-    ∙ flatten-parts 0 widths bytes
-    ∙ ap (λ (k : ℕ). take k bytes) (total-records n)
-
--- the same for the 64 of a state that is read
+-- 64 records are read
 pub length-tasks : (image : List ℕ) → length (stateAt image .tasks) ≡ 64
 unfolding stateAt
 length-tasks image = length-recordsIn 64 (partAt 0 image)
@@ -200,8 +168,7 @@ queue-read image Background = ap queueIn (queue-there image Background)
 pub holder-byte : (image : List ℕ) (core : ℕ) → length image ≡ imageLength → core < 64 → getD image (holdersPlace + core) 0 ≡ holder (stateAt image) core
 unfolding stateAt
 holder-byte image core whole h =
-    read-any image (holdersPlace + core) 0 noneByte (omega (arith, whole))
-    ∙ sym (getD-take 64 (drop holdersPlace image) core noneByte h ∙ getD-drop holdersPlace image core noneByte)
+    read-any image (holdersPlace + core) 0 noneByte (omega (arith, whole)) ∙ sym (getD-part holdersPlace 64 image core noneByte h)
 
 -- and a core of 64 and above has none
 pub holder-past : (image : List ℕ) (core : ℕ) → length image ≡ imageLength → 64 ≤ core → holder (stateAt image) core ≡ noneByte
@@ -255,8 +222,7 @@ module _ (q : Queues) (short : (band : QoSClass) → length (ofBand q band) ≤ 
 
   pub length-queuesBytes : length (queuesBytes q) ≡ 3 * queueLength
   unfolding queuesBytes
-  length-queuesBytes =
-      length-flatten queues ∙ omega (arith, band-length UserInteractive, band-length RealTimeIO, band-length Background)
+  length-queuesBytes = length-flatten queues ∙ omega (arith, band-length UserInteractive, band-length RealTimeIO, band-length Background)
 
   -- the queue of a band stands at its place
   queue-in : (band : QoSClass) → part (queueLength * bandCode band) queueLength (queuesBytes q) ≡ queueBytes (ofBand q band)
@@ -280,49 +246,57 @@ module _ (s : State) (slots : length (s .tasks) ≡ 64) where
       sym (record-there (imageOf s) slot l) ∙ ap (recordAt slot) records-at ∙ record-in (s .tasks) slot emptyRecord (omega (arith, slots, l))
 
   module _ (lengths : (band : QoSClass) → length (queue s band) ≤ 64) where
+    length-queues : length (queuesBytes (s .queues)) ≡ 3 * queueLength
+    length-queues = length-queuesBytes (s .queues) lengths
+
     -- the queues, and the 65 bytes of a band
     pub queues-at : partAt 1 (imageOf s) ≡ queuesBytes (s .queues)
     unfolding imageOf
-    queues-at = part-of (imageParts s) 1 queuesPlace (omega arith) (omega (arith, length-records)) (length-queuesBytes (s .queues) lengths)
+    queues-at = part-of (imageParts s) 1 queuesPlace (omega arith) (omega (arith, length-records)) length-queues
 
     pub queue-at : (band : QoSClass) → queueAt band (imageOf s) ≡ queueBytes (queue s band)
     queue-at band =
-        sym (queue-there (imageOf s) band)
-        ∙ ap (part (queueLength * bandCode band) queueLength) queues-at
-        ∙ queue-in (s .queues) lengths band
+        sym (queue-there (imageOf s) band) ∙ ap (part (queueLength * bandCode band) queueLength) queues-at ∙ queue-in (s .queues) lengths band
 
     module _ (cores : length (s .holders) ≡ 64) where
       -- the holders, the microseconds, and the whole
       pub holders-at : partAt 2 (imageOf s) ≡ s .holders
       unfolding imageOf
-      holders-at = part-of (imageParts s) 2 holdersPlace (omega arith) (omega (arith, length-records, length-queuesBytes (s .queues) lengths)) cores
+      holders-at = part-of (imageParts s) 2 holdersPlace (omega arith) (omega (arith, length-records, length-queues)) cores
 
       pub micros-at : partAt 3 (imageOf s) ≡ bytesOf 8 (s .micros)
       unfolding imageOf
-      micros-at =
-          part-of (imageParts s) 3 microsPlace (omega arith) (omega (arith, length-records, length-queuesBytes (s .queues) lengths, cores)) (length-bytesOf 8 (s .micros))
+      micros-at = part-of (imageParts s) 3 microsPlace (omega arith) (omega (arith, length-records, length-queues, cores)) (length-bytesOf 8 (s .micros))
 
+      pub micros-read : s .micros < 256 ^ 8 → numberAt microsPlace 8 (imageOf s) ≡ s .micros
+      micros-read fits = ap bigEndian micros-at ∙ bigEndian-bytesOf 8 (s .micros) fits
+
+      -- all of them have their lengths
       pub lengths-are : map length (imageParts s) ≡ partLengths
-      lengths-are = λ i. length-records i ∷ length-queuesBytes (s .queues) lengths i ∷ cores i ∷ length-bytesOf 8 (s .micros) i ∷ []
+      lengths-are = λ i. length-records i ∷ length-queues i ∷ cores i ∷ length-bytesOf 8 (s .micros) i ∷ []
+
+      pub length-image : length (imageOf s) ≡ imageLength
+      unfolding imageOf
+      length-image = length-flatten (imageParts s) ∙ ap total lengths-are
 
 -- ---- written, and read back
 
 module _ (s : State) (a : Accepted s) where
   -- "The image (added) is 3,275 bytes"
   pub length-imageOf : length (imageOf s) ≡ imageLength
-  unfolding imageOf
-  length-imageOf = length-flatten (imageParts s) ∙ ap total (lengths-are s (a .slots) (a .lengths) (a .cores))
+  length-imageOf = length-image s (a .slots) (a .lengths) (a .cores)
 
   -- the records and each queue are read back
-  records-back : Each FitsRecord (s .tasks) → recordsIn 64 (partAt 0 (imageOf s)) ≡ s .tasks
+  records-back : Each FitsRecord (s .tasks) → stateAt (imageOf s) .tasks ≡ s .tasks
   records-back fit =
-      ap (recordsIn 64) (records-at s (a .slots))
-      ∙ ap (λ (n : ℕ). recordsIn n (recordsBytes (s .tasks))) (sym (a .slots))
-      ∙ recordsIn-recordsBytes (s .tasks) fit
+      ext-getD emptyRecord (stateAt (imageOf s) .tasks) (s .tasks) (length-tasks (imageOf s) ∙ sym (a .slots)) (λ slot low.
+      let l : slot < 64 = omega (arith, low, length-tasks (imageOf s)) in
+      task-read (imageOf s) slot l
+      ∙ ap recordIn (record-at s (a .slots) slot l)
+      ∙ recordIn-recordBytes (task s slot) (each-at FitsRecord (s .tasks) slot emptyRecord fit (omega (arith, a .slots))))
 
-  queue-back : (band : QoSClass) → queueOf band (partAt 1 (imageOf s)) ≡ queue s band
-  queue-back band =
-      ap queueIn (queue-there (imageOf s) band ∙ queue-at s (a .slots) (a .lengths) band) ∙ queueIn-queueBytes (queue s band)
+  queue-back : (band : QoSClass) → queue (stateAt (imageOf s)) band ≡ queue s band
+  queue-back band = queue-read (imageOf s) band ∙ ap queueIn (queue-at s (a .slots) (a .lengths) band) ∙ queueIn-queueBytes (queue s band)
 
   -- "writing then reading the image gives the same state"
   pub reads-back : FitsImage s → stateAt (imageOf s) ≡ s
@@ -331,44 +305,44 @@ module _ (s : State) (a : Accepted s) where
     tasks = records-back (fits .records) i;
     queues = record { interactive = queue-back UserInteractive i; realTime = queue-back RealTimeIO i; background = queue-back Background i };
     holders = holders-at s (a .slots) (a .lengths) (a .cores) i;
-    micros = (ap bigEndian (micros-at s (a .slots) (a .lengths) (a .cores)) ∙ bigEndian-bytesOf 8 (s .micros) (fits .micros)) i;
+    micros = micros-read s (a .slots) (a .lengths) (a .cores) (fits .micros) i;
   }
 
 -- ---- read, and written again
 
 module _ (image : List ℕ) (long : baseLength ≤ length image) (a : AcceptedBase image) where
   -- each part is written again as it was
-  record-again : (slot : ℕ) → slot < 64 → recordBytes (recordIn (recordAt slot image)) ≡ recordAt slot image
+  record-again : (slot : ℕ) → slot < 64 → recordBytes (task (stateAt image) slot) ≡ recordAt slot image
   record-again slot l =
-      recordBytes-recordIn (recordAt slot image) (bytes-part (recordPlace slot) recordLength image (a .bytes))
+      ap recordBytes (task-read image slot l)
+      ∙ recordBytes-recordIn (recordAt slot image) (bytes-part (recordPlace slot) recordLength image (a .bytes))
       (length-part (recordPlace slot) recordLength image (omega arith)) (a .bands slot l) (a .states slot l) (a .in-uses slot l)
 
-  records-again : recordsBytes (recordsIn 64 (partAt 0 image)) ≡ partAt 0 image
+  records-again : recordsBytes (stateAt image .tasks) ≡ partAt 0 image
   records-again =
-      recordsBytes-recordsIn 64 (partAt 0 image)
-      (λ slot l. subst (λ (bytes : List ℕ). recordBytes (recordIn bytes) ≡ bytes) (sym (record-there image slot l)) (record-again slot l))
-      ∙ take-take queuesPlace queuesPlace image (omega arith)
+      records-are (stateAt image .tasks) image (λ slot l. record-again slot (omega (arith, length-tasks image)))
+      ∙ ap (λ (n : ℕ). take (recordLength * n) image) (length-tasks image)
 
-  queue-again : (band : QoSClass) → queueBytes (queueOf band (partAt 1 image)) ≡ part (queueLength * bandCode band) queueLength (partAt 1 image)
+  queue-again : (band : QoSClass) → queueBytes (queue (stateAt image) band) ≡ queueAt band image
   queue-again band =
-      subst (λ (bytes : List ℕ). queueBytes (queueIn bytes) ≡ bytes) (sym (queue-there image band))
-      (queueBytes-queueIn (queueAt band image) (length-part (queuePlace band) queueLength image (omega (arith, bandCode-small band)))
-      (a .lengths band) (a .unused band))
+      ap queueBytes (queue-read image band)
+      ∙ queueBytes-queueIn (queueAt band image) (length-part (queuePlace band) queueLength image (omega (arith, bandCode-small band)))
+      (a .lengths band) (a .unused band)
 
-  queues-again : queuesBytes (queuesIn (partAt 1 image)) ≡ partAt 1 image
+  queues-again : queuesBytes (stateAt image .queues) ≡ partAt 1 image
   unfolding queuesBytes
   queues-again =
       ap flatten (λ i. queue-again UserInteractive i ∷ queue-again RealTimeIO i ∷ queue-again Background i ∷ [])
-      ∙ flatten-parts 0 (queueLength ∷ queueLength ∷ queueLength ∷ []) (partAt 1 image)
-      ∙ take-take (3 * queueLength) (3 * queueLength) (drop queuesPlace image) (omega arith)
+      ∙ flatten-parts queuesPlace (queueLength ∷ queueLength ∷ queueLength ∷ []) image
 
   parts-again : imageParts (stateAt image) ≡ partsAt 0 partLengths image
   unfolding stateAt
-  parts-again = λ i.
-      records-again i ∷ queues-again i ∷ partAt 2 image ∷ bytesOf-numberAt microsPlace 8 image (a .bytes) long i ∷ []
+  parts-again = λ i. records-again i ∷ queues-again i ∷ partAt 2 image ∷ bytesOf-numberAt microsPlace 8 image (a .bytes) long i ∷ []
 
 -- "reading then writing gives the same bytes"
 pub writes-back : (image : List ℕ) → AcceptedImage image → imageOf (stateAt image) ≡ image
 unfolding imageOf
 writes-back image a =
-    ap flatten (parts-again image (omega (arith, a .length-is)) (a .base)) ∙ flatten-parts 0 partLengths image ∙ take-all imageLength image (omega (arith, a .length-is))
+    ap flatten (parts-again image (omega (arith, a .length-is)) (a .base))
+    ∙ flatten-parts 0 partLengths image
+    ∙ take-all imageLength image (omega (arith, a .length-is))

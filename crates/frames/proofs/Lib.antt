@@ -3,7 +3,7 @@
 --   Stores          bytes stored one behind the other, and read back
 --   Elements        what holds of each element of a list
 --   Numbers         big-endian numbers: written and read back, over every width
---   Widths          numbers one behind the other, each in its width: written and read back
+--   Widths          parts, and numbers, one behind the other, each in its width: written and read back, and a store inside one part
 --   Digits          hexadecimal digits: written and read back
 --   Sizes           how many bytes an answer has
 --   Refused         lines that are no frame, those longer than any frame among them

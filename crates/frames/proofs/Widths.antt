@@ -7,9 +7,9 @@ use Prim.Native.Nat.{ℕ, zero, suc, _+_, _*_, _≤_, _<_, _^_}
 use native.Mathlib.Nat.{add-assoc, zero-add, mul-assoc, mul-le-mul-right, pow-succ', pow-le-pow-right, lt-of-lt-of-le}
 use native.Mathlib.Omega.{arith}
 use lib.ListN.{length, getD, take, drop, set, length-append, length-take, length-drop}
-use lib.Seq.{sets, take-at, take-take, take-append-seam, drop-append-seam, drop-append-add, take-add, drop-drop}
+use lib.Seq.{sets, take-at, take-take, take-append-seam, drop-append-seam, drop-append-add, take-add, drop-drop, getD-take, getD-drop}
 use Rattle.records.specs.Lists.{Each}
-use Rattle.frames.specs.Bytes.{AllBytes, bigEndianFrom, bigEndian, bytesOf, part, partsAt, numberAt, written, numbersAt, Fit, total}
+use Rattle.frames.specs.Bytes.{AllBytes, bigEndianFrom, bigEndian, bytesOf, part, numberAt, written, numbersAt, Fit, total}
 use Rattle.frames.proofs.Elements.{each-take, each-drop}
 use Rattle.frames.proofs.Numbers.{length-bytesOf, bigEndian-bytesOf, bytesOf-bigEndian}
 use Rattle.frames.proofs.Stores.{sets-behind, sets-front}
@@ -19,6 +19,10 @@ use Rattle.frames.proofs.Stores.{sets-behind, sets-front}
 -- a part that stands there is as long as was asked for
 pub length-part : (at width : ℕ) (bytes : List ℕ) → at + width ≤ length bytes → length (part at width bytes) ≡ width
 length-part at width bytes h = omega (arith, length-take width (drop at bytes), length-drop at bytes)
+
+-- an element of a part
+pub getD-part : (at width : ℕ) (bytes : List ℕ) (i d : ℕ) → i < width → getD (part at width bytes) i d ≡ getD bytes (at + i) d
+getD-part at width bytes i d h = getD-take width (drop at bytes) i d h ∙ getD-drop at bytes i d
 
 -- a part of bytes is bytes
 pub bytes-part : (at width : ℕ) (bytes : List ℕ) → AllBytes bytes → AllBytes (part at width bytes)
@@ -64,7 +68,11 @@ pub part-of : (parts : List (List ℕ)) (k at : ℕ) {width : ℕ} → k < lengt
     length (getD parts k []) ≡ width → part at width (flatten parts) ≡ getD parts k []
 part-of parts k at h place size = (λ i. part (sym place i) (sym size i) (flatten parts)) ∙ part-read parts k h
 
--- writing what was read
+-- writing what was read: parts from a place on, each in its width
+abbrev pub partsAt : ℕ → List ℕ → List ℕ → List (List ℕ)
+partsAt at [] bytes = []
+partsAt at (width ∷ widths) bytes = part at width bytes ∷ partsAt (at + width) widths bytes
+
 pub flatten-parts : (at : ℕ) (widths bytes : List ℕ) → flatten (partsAt at widths bytes) ≡ part at (total widths) bytes
 unfolding flatten
 flatten-parts at [] bytes = refl
@@ -82,11 +90,6 @@ sets-part (piece ∷ parts) (suc k) at a h room =
     ap (λ (n : ℕ). sets (piece ++ flatten parts) n a) (add-assoc (length piece) (total (take k (map length parts))) at)
     ∙ sets-behind piece (flatten parts) (total (take k (map length parts)) + at) a
     ∙ ap (λ (l : List ℕ). piece ++ l) (sets-part parts k at a (omega arith) room)
-
--- a part for each width
-pub length-parts : (at : ℕ) (widths bytes : List ℕ) → length (partsAt at widths bytes) ≡ length widths
-length-parts at [] bytes = refl
-length-parts at (width ∷ widths) bytes = ap suc (length-parts (at + width) widths bytes)
 
 -- as long as all of them
 pub length-flatten : (parts : List (List ℕ)) → length (flatten parts) ≡ total (map length parts)

@@ -2,7 +2,7 @@
 -- and the image from all of them. Assumes nothing.
 use mathlib.Core.Path.{_≡_, refl, sym, ap, _∙_}
 use mathlib.Core.Bool.{Bool, cond}
-use mathlib.Core.List.{List, [], _∷_, _++_, flatten}
+use mathlib.Core.List.{List, [], _∷_, _++_, map, flatten}
 use Prim.Native.Nat.{ℕ, zero, suc, _+_, _*_, _%_, _≤_, _<_}
 use native.Mathlib.Nat.{zero-add}
 use native.Mathlib.Omega.{arith}
@@ -22,13 +22,14 @@ use Rattle.queue.specs.Entries.{places}
 use Rattle.queue.specs.Stored.{entries, WellFormed}
 use Rattle.scheduler.specs.declared.scheduler.QoSScheduler.{QoSScheduler}
 use Rattle.scheduler.specs.Scheduler.{queuesOf, abs, Whole, Valid}
-use Rattle.rules.specs.State.{State, Queues, ofBand, withTask}
+use Rattle.rules.specs.State.{State, bandOrder, withTask}
 use Rattle.rules.specs.Touched.{SameBut}
 use Rattle.scheduler.proofs.Arrays.{read-any, ring-of, entries-of}
 use Rattle.frames.specs.AcceptedImage.{AcceptedImage}
 use Rattle.frames.specs.Answer.{recordBytes}
 use Rattle.frames.specs.Bytes.{bytesOf}
-use Rattle.frames.specs.Image.{recordLength, recordPlace, queueLength, queuesPlace, holdersPlace, microsPlace, imageLength, recordsBytes, queueBytes, queuesBytes, imageParts, imageOf, stateAt}
+use Rattle.frames.specs.Image.{recordLength, recordPlace, queueLength, queuesPlace, holdersPlace, microsPlace, imageLength}
+use Rattle.frames.specs.Image.{recordsBytes, queueBytes, queuesBytes, imageParts, imageOf, stateAt}
 use Rattle.frames.specs.Fits.{HasImage}
 use Rattle.frames.specs.Private.{Short}
 use Rattle.frames.specs.ReadWrite.{WritesImage}
@@ -53,7 +54,8 @@ records-on o tasks slot d h e =
     ∙ ap (λ ts. sets o (recordLength * slot) (recordsBytes ts)) (sym (drop-cons tasks slot d h))
 
 -- none is left
-pub records-end : (o : List ℕ) (tasks : List TaskControlBlock) (slot : ℕ) → length tasks ≤ slot → o ≡ sets o (recordLength * slot) (recordsBytes (drop slot tasks))
+pub records-end : (o : List ℕ) (tasks : List TaskControlBlock) (slot : ℕ) → length tasks ≤ slot →
+    o ≡ sets o (recordLength * slot) (recordsBytes (drop slot tasks))
 unfolding recordsBytes flatten
 records-end o tasks slot h = ap (λ ts. sets o (recordLength * slot) (recordsBytes ts)) (sym (drop-of-length-le tasks h))
 
@@ -109,27 +111,23 @@ queue-put es short o {o₁} at e₁ x e₂ p =
     run-on o at 1 (at + 1) (places es) e₁ x refl (e₂ ∙ ap (sets o₁ (at + 1)) p)
     ∙ ap (λ front. sets o at (front ++ places es)) (one-byte (length es) (omega (arith, short)))
 
--- the first band's, the second's behind it, the third's behind both
-queues-behind : (q : Queues) → Short q → (o : List ℕ) {o₁ o₂ o₃ : List ℕ} (at : ℕ) → o₁ ≡ sets o at (queueBytes (q .interactive))
-    → o₂ ≡ sets o₁ (at + queueLength) (queueBytes (q .realTime)) → o₃ ≡ sets o₂ (at + 2 * queueLength) (queueBytes (q .background)) → o₃ ≡ sets o at (queuesBytes q)
-unfolding queuesBytes flatten
-queues-behind q short o {o₁} {o₂} at e₁ e₂ e₃ =
-    behind o at (at + queueLength) (queueBytes (q .interactive)) _ e₁ (omega (arith, length-queueBytes (q .interactive) (short UserInteractive)))
-    (behind o₁ (at + queueLength) (at + 2 * queueLength) (queueBytes (q .realTime)) _ e₂ (omega (arith, length-queueBytes (q .realTime) (short RealTimeIO)))
-    (alone o₂ (at + 2 * queueLength) (queueBytes (q .background)) e₃))
-
 module _ (qs : List BandQueue) (w : Whole qs) (short : Short (queuesOf qs)) where
   -- each of the three may be stored
   pub queue-fits : (b : QoSClass) (d : BandQueue) → WellFormed (getD qs (bandCode b) d) × (length (entries (getD qs (bandCode b) d)) ≤ 64)
   queue-fits b d = (ring-of qs w b d, rw (entries-of qs w b d) (short b))
 
+  -- the first band's, the second's behind it, the third's behind both
   pub queues-put : (o : List ℕ) {o₁ o₂ o₃ : List ℕ} (at : ℕ) (d : BandQueue) → o₁ ≡ sets o at (queueBytes (entries (getD qs 0 d)))
       → o₂ ≡ sets o₁ (at + queueLength) (queueBytes (entries (getD qs 1 d))) → o₃ ≡ sets o₂ (at + 2 * queueLength) (queueBytes (entries (getD qs 2 d)))
       → o₃ ≡ sets o at (queuesBytes (queuesOf qs))
+  unfolding queuesBytes flatten
   queues-put o {o₁} {o₂} at d e₁ e₂ e₃ =
-      let same : (b : QoSClass) (out : List ℕ) (n : ℕ) → sets out n (queueBytes (entries (getD qs (bandCode b) d))) ≡ sets out n (queueBytes (ofBand (queuesOf qs) b)) =
-      λ b out n. ap (λ es. sets out n (queueBytes es)) (entries-of qs w b d) in
-      queues-behind (queuesOf qs) short o at (e₁ ∙ same UserInteractive o at) (e₂ ∙ same RealTimeIO o₁ (at + queueLength)) (e₃ ∙ same Background o₂ (at + 2 * queueLength))
+      let bytes : QoSClass → List ℕ = λ b. queueBytes (entries (getD qs (bandCode b) d)) in
+      let long : (b : QoSClass) → length (bytes b) ≡ queueLength = λ b. length-queueBytes (entries (getD qs (bandCode b) d)) (queue-fits b d .1) in
+      behind o at (at + queueLength) (bytes UserInteractive) _ e₁ (omega (arith, long UserInteractive))
+      (behind o₁ (at + queueLength) (at + 2 * queueLength) (bytes RealTimeIO) _ e₂ (omega (arith, long RealTimeIO))
+      (alone o₂ (at + 2 * queueLength) (bytes Background) e₃))
+      ∙ (λ i. sets o at (flatten (map (λ b. queueBytes (entries-of qs w b d i)) bandOrder)))
 
 -- ---- the image
 
@@ -140,8 +138,8 @@ module _ (s : QoSScheduler) (v : Valid s) where
 
   -- records, queues, holders, microseconds, over a buffer that they fill
   pub image-put : (o : List ℕ) {o₁ o₂ o₃ o₄ : List ℕ} → length o ≡ imageLength → o₁ ≡ sets o 0 (recordsBytes (s .tasks))
-      → o₂ ≡ sets o₁ queuesPlace (queuesBytes (queuesOf (s .queues))) → o₃ ≡ sets o₂ holdersPlace (s .current) → o₄ ≡ sets o₃ microsPlace (bytesOf 8 (s .«system_ticks_us»))
-      → o₄ ≡ imageOf (abs s)
+      → o₂ ≡ sets o₁ queuesPlace (queuesBytes (queuesOf (s .queues))) → o₃ ≡ sets o₂ holdersPlace (s .current)
+      → o₄ ≡ sets o₃ microsPlace (bytesOf 8 (s .«system_ticks_us»)) → o₄ ≡ imageOf (abs s)
   unfolding imageOf flatten abs
   image-put o {o₁} {o₂} {o₃} long e₁ e₂ e₃ e₄ =
       let records : length (recordsBytes (s .tasks)) ≡ queuesPlace = length-recordsBytes (s .tasks) ∙ omega (arith, v .accepted .slots) in
@@ -162,18 +160,20 @@ module _ (s : QoSScheduler) (v : Valid s) where
   image-over image {o₁} {o₂} first second d a same e₁ e₂ =
       let old = stateAt image in
       let size : length (old .tasks) ≡ 64 = length-tasks image in
-      let t = getD (s .tasks) (first % 64) d in
-      let u = getD (s .tasks) (second % 64) d in
-      let one : o₁ ≡ imageOf (withTask old (first % 64) t) =
-      e₁ ∙ ap (λ (l : List ℕ). sets l (recordPlace (first % 64)) (recordBytes t)) (sym (writes-back image a)) ∙ record-stored old (first % 64) t (omega (arith, size)) in
-      let two : o₂ ≡ imageOf (withTask (withTask old (first % 64) t) (second % 64) u) =
-      e₂ ∙ ap (λ (l : List ℕ). sets l (recordPlace (second % 64)) (recordBytes u)) one
-      ∙ record-stored (withTask old (first % 64) t) (second % 64) u (omega (arith, size, length-set (old .tasks) (first % 64) t)) in
-      let whole : set (set (old .tasks) (first % 64) t) (second % 64) u ≡ s .tasks =
-      set-two emptyRecord d (old .tasks) (s .tasks) (first % 64) (second % 64) (size ∙ sym (v .accepted .slots)) (omega (arith, size)) (omega (arith, size))
-      (λ k low not-one not-two. same k (λ e. not-one (omega (arith, e, low, size))) (λ e. not-two (omega (arith, e, low, size)))) in
+      let one = first % 64 in
+      let other = second % 64 in
+      let t = getD (s .tasks) one d in
+      let u = getD (s .tasks) other d in
+      let first-is : o₁ ≡ imageOf (withTask old one t) =
+      e₁ ∙ ap (λ (l : List ℕ). sets l (recordPlace one) (recordBytes t)) (sym (writes-back image a)) ∙ record-stored old one t (omega (arith, size)) in
+      let second-is : o₂ ≡ imageOf (withTask (withTask old one t) other u) =
+      e₂ ∙ ap (λ (l : List ℕ). sets l (recordPlace other) (recordBytes u)) first-is
+      ∙ record-stored (withTask old one t) other u (omega (arith, size, length-set (old .tasks) one t)) in
+      let whole : set (set (old .tasks) one t) other u ≡ s .tasks =
+      set-two emptyRecord d (old .tasks) (s .tasks) one other (size ∙ sym (v .accepted .slots)) (omega (arith, size)) (omega (arith, size))
+      (λ k low not-one not-other. same k (λ e. not-one (omega (arith, e, low, size))) (λ e. not-other (omega (arith, e, low, size)))) in
       let rest = flatten (drop 1 (imageParts old)) in
-      let all : o₂ ≡ recordsBytes (s .tasks) ++ rest = two ∙ ap (λ (ts : List TaskControlBlock). recordsBytes ts ++ rest) whole in
+      let all : o₂ ≡ recordsBytes (s .tasks) ++ rest = second-is ∙ ap (λ (ts : List TaskControlBlock). recordsBytes ts ++ rest) whole in
       image-put o₂ (ap length e₂ ∙ length-sets o₁ _ (recordBytes u) ∙ ap length e₁ ∙ length-sets image _ (recordBytes t) ∙ a .length-is)
       (sym (ap (λ (l : List ℕ). sets l 0 (recordsBytes (s .tasks))) all ∙ sets-over (recordsBytes (s .tasks)) rest (recordsBytes (s .tasks)) refl ∙ sym all))
 

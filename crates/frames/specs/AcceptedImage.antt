@@ -27,7 +27,7 @@ inUseByte bytes = getD (numbersAt 0 recordWidths bytes) 9 0
 
 -- ---- the conditions
 
--- of the four parts above, whatever stands behind them
+-- what is asked of Image.antt's four parts, whatever stands behind them
 pub record AcceptedBase (image : List ℕ) : Type 0 where
   pub bytes : AllBytes image
   -- "band, state and in-use codes are as above"
@@ -38,9 +38,9 @@ pub record AcceptedBase (image : List ℕ) : Type 0 where
   pub lengths : (band : QoSClass) → lengthByte (queueAt band image) ≤ 64
   -- "and unused queue bytes 0"
   pub unused : (band : QoSClass) (place : ℕ) → lengthByte (queueAt band image) ≤ place → place < 64 → slotByte place (queueAt band image) ≡ 0
-  -- all else, each at its field there: "in use is 0 exactly for Terminated; no mask is 0; [..] every queue entry is a Ready slot of that band; every
-  -- Ready slot stands in the queues once; every holder is 255 or a slot in use whose budget is its slice; every budget is 0 or its slice; every
-  -- consumed is below its slice"
+  -- these are fields of Accepted: "in use is 0 exactly for Terminated; no mask is 0; [..] every queue entry is a Ready slot of that band; every Ready
+  -- slot stands in the queues once; every holder is 255 or a slot in use whose budget is its slice; every budget is 0 or its slice; every consumed is
+  -- below its slice"
   pub state : Accepted (stateAt image)
 
 pub record AcceptedImage (image : List ℕ) : Type 0 where

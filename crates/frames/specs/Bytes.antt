@@ -28,11 +28,6 @@ bytesOf (suc width) x = bytesOf width (x / 256) ++ (x % 256 ∷ [])
 abbrev pub part : ℕ → ℕ → List ℕ → List ℕ
 part at width bytes = take width (drop at bytes)
 
--- parts that stand one behind the other from a place on, each in its width
-abbrev pub partsAt : ℕ → List ℕ → List ℕ → List (List ℕ)
-partsAt at [] bytes = []
-partsAt at (width ∷ widths) bytes = part at width bytes ∷ partsAt (at + width) widths bytes
-
 -- the number that stands at a place
 abbrev pub numberAt : ℕ → ℕ → List ℕ → ℕ
 numberAt at width bytes = bigEndian (part at width bytes)

@@ -2,13 +2,12 @@
 -- total, and which bytes are an image that is accepted is AcceptedImage.antt's matter. Both go by one list of parts: a part is a length in
 -- `partLengths`, its bytes in `imageParts` and what they stand for in `stateAt`.
 use mathlib.Core.List.{List, [], _∷_, map, flatten}
-use Prim.Native.Nat.{ℕ, suc, _+_, _*_, _<_, _^_}
+use Prim.Native.Nat.{ℕ, zero, suc, _+_, _*_, _<_, _^_}
 use lib.Dec.{eqb}
-use lib.ListN.{length, getD, take, replicate}
+use lib.ListN.{length, getD, take, drop}
 use Rattle.records.specs.declared.band.BandOption.{BandOption}
 use Rattle.records.specs.declared.band.BandOption.the-variants as band
 use Rattle.records.specs.declared.band.QoSClass.{QoSClass}
-use Rattle.records.specs.declared.band.QoSClass.the-variants.{UserInteractive, RealTimeIO, Background}
 use Rattle.records.specs.declared.state.StateOption.{StateOption}
 use Rattle.records.specs.declared.state.StateOption.the-variants as state
 use Rattle.records.specs.declared.state.ThreadState.{ThreadState}
@@ -21,75 +20,17 @@ use Rattle.queue.specs.Entries.{places}
 use Rattle.rules.specs.Paper.{recordNumbers}
 use Rattle.rules.specs.State.{State, Queues, bandOrder, ofBand}
 use Rattle.frames.specs.Answer.{recordWidths, recordBytes}
-use Rattle.frames.specs.Bytes.{bytesOf, bigEndian, part, partsAt, numbersAt, total, Fit}
+use Rattle.frames.specs.Bytes.{bytesOf, bigEndian, part, numbersAt, total, Fit}
 
--- ---- the parts
+-- ---- a record
 
 -- "A record is 47 bytes"
 abbrev pub recordLength : ℕ
 recordLength = total recordWidths
 
--- "a length byte and 64 slot bytes"
-abbrev pub queueLength : ℕ
-queueLength = 1 + 64
-
--- "64 records (3,008), three queues [..] (195), holders (64), system microseconds (8)", one behind the other
-abbrev pub partLengths : List ℕ
-partLengths = 64 * recordLength ∷ 3 * queueLength ∷ 64 ∷ 8 ∷ []
-
--- "The image (added) is 3,275 bytes"
-abbrev pub imageLength : ℕ
-imageLength = total partLengths
-
--- where the part of a number begins, and its bytes
-abbrev pub placeOf : ℕ → ℕ
-placeOf n = total (take n partLengths)
-
-abbrev pub partAt : ℕ → List ℕ → List ℕ
-partAt n image = part (placeOf n) (getD partLengths n 0) image
-
--- the same places by name; a record's, and a queue's in its part
-abbrev pub recordPlace : ℕ → ℕ
-recordPlace slot = recordLength * slot
-
-abbrev pub queuesPlace : ℕ
-queuesPlace = placeOf 1
-
-abbrev pub queuePlace : QoSClass → ℕ
-queuePlace band = queuesPlace + queueLength * bandCode band
-
-abbrev pub holdersPlace : ℕ
-holdersPlace = placeOf 2
-
-abbrev pub microsPlace : ℕ
-microsPlace = placeOf 3
-
--- what these four parts take, whatever stands behind them
-abbrev pub baseLength : ℕ
-baseLength = placeOf 4
-
--- ---- the bytes of a state
-
 -- records, one behind the other
 unfoldable pub recordsBytes : List TaskControlBlock → List ℕ
 recordsBytes tasks = flatten (map recordBytes tasks)
-
--- "a length byte and 64 slot bytes from front to tail, unused ones 0"
-unfoldable pub queueBytes : List ℕ → List ℕ
-queueBytes es = length es ∷ places es
-
--- "three queues", in the order of the bands
-unfoldable pub queuesBytes : Queues → List ℕ
-queuesBytes q = flatten (map (λ band. queueBytes (ofBand q band)) bandOrder)
-
--- the bytes of each part
-abbrev pub imageParts : State → List (List ℕ)
-imageParts s = recordsBytes (s .tasks) ∷ queuesBytes (s .queues) ∷ s .holders ∷ bytesOf 8 (s .micros) ∷ []
-
-unfoldable pub imageOf : State → List ℕ
-imageOf s = flatten (imageParts s)
-
--- ---- the state of bytes
 
 -- a band or state by its code; a byte that is no code reads as the empty record's
 abbrev pub orEmptyBand : BandOption → QoSClass
@@ -127,9 +68,24 @@ recordIn bytes = recordFrom (numbersAt 0 recordWidths bytes)
 
 -- the first n records
 unfoldable pub recordsIn : ℕ → List ℕ → List TaskControlBlock
-recordsIn n bytes = map recordIn (partsAt 0 (replicate n recordLength) bytes)
+recordsIn zero bytes = []
+recordsIn (suc n) bytes = recordIn (take recordLength bytes) ∷ recordsIn n (drop recordLength bytes)
 
--- of the 65 bytes of a queue the length byte, a slot byte, and the entries
+-- ---- a queue
+
+-- "a length byte and 64 slot bytes"
+abbrev pub queueLength : ℕ
+queueLength = 1 + 64
+
+-- "from front to tail, unused ones 0"
+unfoldable pub queueBytes : List ℕ → List ℕ
+queueBytes es = length es ∷ places es
+
+-- "three queues", in the order of the bands
+unfoldable pub queuesBytes : Queues → List ℕ
+queuesBytes q = flatten (map (λ band. queueBytes (ofBand q band)) bandOrder)
+
+-- the length byte, a slot byte, the entries
 abbrev pub lengthByte : List ℕ → ℕ
 lengthByte bytes = getD bytes 0 0
 
@@ -139,18 +95,35 @@ slotByte place bytes = getD bytes (suc place) 0
 abbrev pub queueIn : List ℕ → List ℕ
 queueIn bytes = part 1 (lengthByte bytes) bytes
 
--- a band's queue among the three, and the three
-abbrev pub queueOf : QoSClass → List ℕ → List ℕ
-queueOf band bytes = queueIn (part (queueLength * bandCode band) queueLength bytes)
-
+-- the three queues
 abbrev pub queuesIn : List ℕ → Queues
 queuesIn bytes = record {
-  interactive = queueOf UserInteractive bytes;
-  realTime = queueOf RealTimeIO bytes;
-  background = queueOf Background bytes;
+  interactive = queueIn (part 0 queueLength bytes);
+  realTime = queueIn (part queueLength queueLength bytes);
+  background = queueIn (part (2 * queueLength) queueLength bytes);
 }
 
--- the state from each part
+-- ---- the image: its parts, one behind the other
+
+-- "64 records (3,008), three queues [..] (195), holders (64), system microseconds (8)"
+abbrev pub partLengths : List ℕ
+partLengths = 64 * recordLength ∷ 3 * queueLength ∷ 64 ∷ 8 ∷ []
+
+-- the bytes of each
+abbrev pub imageParts : State → List (List ℕ)
+imageParts s = recordsBytes (s .tasks) ∷ queuesBytes (s .queues) ∷ s .holders ∷ bytesOf 8 (s .micros) ∷ []
+
+unfoldable pub imageOf : State → List ℕ
+imageOf s = flatten (imageParts s)
+
+-- where each begins, and its bytes there
+abbrev pub placeOf : ℕ → ℕ
+placeOf n = total (take n partLengths)
+
+abbrev pub partAt : ℕ → List ℕ → List ℕ
+partAt n image = part (placeOf n) (getD partLengths n 0) image
+
+-- what each stands for
 unfoldable pub stateAt : List ℕ → State
 stateAt image = record {
   tasks = recordsIn 64 (partAt 0 image);
@@ -159,7 +132,32 @@ stateAt image = record {
   micros = bigEndian (partAt 3 image);
 }
 
--- the 47 bytes of a slot's record, and the 65 bytes of a band's queue, where they stand in the image
+-- ---- the same places by name
+
+-- "The image (added) is 3,275 bytes"
+abbrev pub imageLength : ℕ
+imageLength = total partLengths
+
+-- what these four parts take, whatever stands behind them
+abbrev pub baseLength : ℕ
+baseLength = placeOf 4
+
+abbrev pub queuesPlace : ℕ
+queuesPlace = placeOf 1
+
+abbrev pub holdersPlace : ℕ
+holdersPlace = placeOf 2
+
+abbrev pub microsPlace : ℕ
+microsPlace = placeOf 3
+
+-- a slot's record and a band's queue: where they begin, and their 47 and 65 bytes
+abbrev pub recordPlace : ℕ → ℕ
+recordPlace slot = recordLength * slot
+
+abbrev pub queuePlace : QoSClass → ℕ
+queuePlace band = queuesPlace + queueLength * bandCode band
+
 abbrev pub recordAt : ℕ → List ℕ → List ℕ
 recordAt slot image = part (recordPlace slot) recordLength image
 
