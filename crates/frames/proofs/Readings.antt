@@ -8,16 +8,14 @@ use native.Mathlib.Numerals.{add-one}
 use lib.ListN.{length, getD, take, drop, set, length-set}
 use lib.Seq.{sets, take-all, take-suc, take-suc-set, drop-at}
 use Rattle.records.specs.declared.band.QoSClass.{QoSClass}
-use Rattle.records.specs.declared.band.QoSClass.the-variants.{UserInteractive, RealTimeIO, Background}
 use Rattle.records.specs.declared.task.TaskControlBlock.{TaskControlBlock}
 use Rattle.records.specs.Task.{emptyRecord}
 use Rattle.records.proofs.Bands.{bandCode-small}
 use Rattle.queue.specs.declared.BandQueue.{BandQueue}
 use Rattle.queue.specs.Stored.{Holds}
 use Rattle.scheduler.specs.declared.scheduler.QoSScheduler.{QoSScheduler}
-use Rattle.records.specs.Lists.{Each}
 use Rattle.rules.specs.Accepted.{Accepted}
-use Rattle.scheduler.specs.Scheduler.{abs, queuesOf, IsNew, HoldQueues}
+use Rattle.scheduler.specs.Scheduler.{abs, IsNew, HoldQueues}
 use Rattle.rules.specs.State.{queue}
 use Rattle.frames.specs.declared.read.ImageStatus.{ImageStatus}
 use Rattle.frames.specs.declared.read.ImageStatus.the-variants as read
@@ -98,15 +96,6 @@ module _ (image : List ℕ) (long : length image ≡ imageLength) where
   pub holders-are : (before : List ℕ) {after : List ℕ} → length before ≡ 64 → after ≡ sets before 0 (part holdersPlace 64 image) → after ≡ stateAt image .holders
   unfolding stateAt
   holders-are before size is = copied holdersPlace 64 before (omega arith) size is
-
--- a queue for each band
-pub queues-hold : (image : List ℕ) {first second third : BandQueue} → Holds first (queue (stateAt image) UserInteractive) → Holds second (queue (stateAt image) RealTimeIO) →
-    Holds third (queue (stateAt image) Background) → HoldQueues (first ∷ second ∷ third ∷ []) (stateAt image .queues)
-unfolding queuesOf Each
-queues-hold image a b c = record {
-  whole = record { bands = refl; rings = (a .well-formed, (b .well-formed, (c .well-formed, tt))) };
-  entries-are = λ i. record { interactive = a .entries-are i; realTime = b .entries-are i; background = c .entries-are i };
-}
 
 -- the scheduler with its records read so far, and all that is not a record
 pub record Reading (image : List ℕ) (slot : ℕ) (s : QoSScheduler) : Type 0 where
