@@ -9,20 +9,15 @@ use Rattle.scheduler.specs.declared.scheduler.QoSScheduler.{QoSScheduler}
 use Rattle.claims.specs.History.{Made, History, left, callsOf}
 use Rattle.scheduler.specs.Scheduler.{abs, Valid}
 use Rattle.rules.specs.State.{State}
-use Rattle.rules.specs.Step.{step, run}
+use Rattle.rules.specs.Step.{run}
 use Rattle.claims.proofs.Histories.{valid-left, left-append, history-append, left-is, answersFrom, answers-are, every-list-happens}
 use Rattle.frames.specs.declared.decode.CallOption.{CallOption}
 use Rattle.frames.specs.declared.decode.CallOption.the-variants.{None, Some}
-use Rattle.claims.specs.Requests.{Protocol, callIn, callsAmong, Takes, Follows, Asks}
+use Rattle.claims.specs.Requests.{Protocol, callIn, callsAmong, NextCalls, Follows, Asks}
 use Rattle.frames.specs.ReadWrite.{ReadAs}
 use Rattle.frames.specs.Lines.{said}
 use Rattle.claims.specs.Demand3.{Start, startState}
 use Rattle.claims.proofs.Demand3.{start-as, demand3}
-
-pub run-append : (past next : List Call) (s : State) → run (past ++ next) s ≡ run next (run past s)
-unfolding run
-run-append [] next s = refl
-run-append (call ∷ past) next s = run-append past next (step call s .state)
 
 -- a frame's call, if there is one
 pub run-said : (c : CallOption) (s : State) → run (callIn c) s ≡ said c s .state
@@ -74,14 +69,14 @@ module _ {A : Type 0} (p : Protocol A) where
       ∙ (λ i. first .calls-are i ++ follows-calls (left s (first .now)) rest (first .later) f i)
 
   -- a request that asks for no call is none of the history's, and one that asks for one call is the next and is told its answer
-  pub takes-none : {s : QoSScheduler} {a : A} {made : List Made} (t : Takes p s a made) → p .asked a ≡ [] → (t .later ≡ made) × p .Told a (abs s) []
-  takes-none t none =
+  pub asks-none : {s : QoSScheduler} {a : A} {made : List Made} (t : NextCalls p s a made) → p .asked a ≡ [] → (t .later ≡ made) × p .Told a (abs s) []
+  asks-none t none =
       let is : t .now ≡ [] = map-eq-nil-iff (λ (m : Made). m .call) .0 (t .calls-are ∙ none) in
       (ap (λ (l : List Made). l ++ t .later) (sym is) ∙ t .cut, rw is at (t .told))
 
-  pub takes-one : {s : QoSScheduler} {a : A} {made : List Made} (t : Takes p s a made) {call : Call} → p .asked a ≡ call ∷ [] →
+  pub asks-one : {s : QoSScheduler} {a : A} {made : List Made} (t : NextCalls p s a made) {call : Call} → p .asked a ≡ call ∷ [] →
       (m : Made) × ((m ∷ t .later ≡ made) × ((m .call ≡ call) × p .Told a (abs s) (m .reply .answer ∷ [])))
-  takes-one t one =
+  asks-one t one =
       let (m, (is, call-is)) = one-made (t .now) (t .calls-are ∙ one) in
       (m, (ap (λ (l : List Made). l ++ t .later) (sym is) ∙ t .cut, (call-is, rw is at (t .told))))
 

@@ -27,7 +27,7 @@ use Rattle.rules.proofs.Calls.{new-accepted, call-accepted}
 use Rattle.rules.proofs.Stretches.{longest}
 use Rattle.rules.proofs.Waiting.{rules-demand3}
 use Rattle.scheduler.proofs.Arrays.{three-hold}
-use Rattle.scheduler.proofs.Puts.{storedAs, HoldsState, stored-as, holds-valid}
+use Rattle.scheduler.proofs.Builders.{storedAs, HoldsState, stored-as, holds-valid}
 
 -- ---- what a history leaves, and where it is cut
 

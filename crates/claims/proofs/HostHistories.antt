@@ -29,7 +29,8 @@ use Rattle.claims.specs.Demand3.{ReadFrom, fromImage}
 use Rattle.frames.proofs.AcceptedImages.{accepted-state}
 use Rattle.claims.proofs.Demand3.{a-reading}
 use Rattle.claims.proofs.Histories.{answersFrom}
-use Rattle.claims.proofs.Follows.{run-append, run-said, Chain, asks}
+use Rattle.claims.proofs.Follows.{run-said, Chain, asks}
+use Rattle.rules.proofs.Stretches.{run-append}
 use Rattle.frames.proofs.AnswersFit.{pick-told}
 use Rattle.frames.proofs.Images.{writes-back}
 use Rattle.frames.proofs.StatesFit.{image-fits, image-has-image, frame-image}

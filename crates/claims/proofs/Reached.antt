@@ -14,13 +14,13 @@ use Rattle.frames.specs.AcceptedImage.{AcceptedImage}
 use Rattle.frames.specs.Fits.{FitsCall, HasImage}
 use Rattle.frames.specs.Image.{stateAt, FitsImage}
 use Rattle.frames.proofs.AcceptedImages.{has-image}
-use Rattle.frames.proofs.StatesFit.{called-image, new-has-image, image-has-image, kept-fits}
+use Rattle.frames.proofs.StatesFit.{call-has-image, new-has-image, image-has-image, kept-fits}
 
 -- by any calls whose numbers fit, from a state that has an image
 pub reached-image : (s : State) (calls : List Call) → HasImage s → Each FitsCall calls → HasImage (run calls s)
 unfolding run Each
 reached-image s [] has fit = has
-reached-image s (call ∷ calls) has fit = reached-image (step call s .state) calls (called-image call s (fit .0) has) (fit .1)
+reached-image s (call ∷ calls) has fit = reached-image (step call s .state) calls (call-has-image call s (fit .0) has) (fit .1)
 
 -- from new
 pub new-reached : (calls : List Call) → Each FitsCall calls → HasImage (run calls newState)

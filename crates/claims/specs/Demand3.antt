@@ -1,5 +1,5 @@
 -- Demand 3, whole: "on one scheduler that starts new or from an accepted image". Where a list of calls may start, the state that the rules start
--- from there, and what is claimed of every history from such a start. The sentences of the demand stand at the fields of `CodePoint` (scheduler).
+-- from there, and what is claimed of every history from such a start. The sentences of the demand stand at the fields of `CodePoint` (History).
 use mathlib.Core.Path.{_≡_}
 use mathlib.Core.List.{List}
 use Prim.Native.Nat.{ℕ}

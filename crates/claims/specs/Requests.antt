@@ -39,7 +39,7 @@ RefusedOr refused told (answer ∷ next ∷ more) = ⊥
 -- ---- requests as a history
 
 -- a request that finds a scheduler is the next calls made, as many as it asks for
-pub record Takes {A : Type 0} (p : Protocol A) (s : QoSScheduler) (a : A) (made : List Made) : Type 0 where
+pub record NextCalls {A : Type 0} (p : Protocol A) (s : QoSScheduler) (a : A) (made : List Made) : Type 0 where
   -- the calls made for it, and those that follow
   pub now : List Made
   pub later : List Made
@@ -52,7 +52,7 @@ pub record Takes {A : Type 0} (p : Protocol A) (s : QoSScheduler) (a : A) (made 
 -- each request is the history's next calls, and all of the history is some request's
 unfoldable pub Follows : {A : Type 0} → Protocol A → QoSScheduler → List A → List Made → Type 0
 Follows p s [] made = made ≡ []
-Follows p s (a ∷ rest) made = (first : Takes p s a made) × Follows p (left s (first .now)) rest (first .later)
+Follows p s (a ∷ rest) made = (first : NextCalls p s a made) × Follows p (left s (first .now)) rest (first .later)
 
 -- at a point of the requests, behind those so far: the point of the history that it is, and all that demand 3 claims there
 pub record AskedPoint {A : Type 0} (p : Protocol A) (start : State) (s : QoSScheduler) (whole : List Made) (past next : List A) : Type 0 where

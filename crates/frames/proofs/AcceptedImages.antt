@@ -57,53 +57,54 @@ module _ (image : List ℕ) (long : baseLength ≤ length image) where
       let room : length (queueAt band image) ≡ queueLength = length-part (queuePlace band) queueLength image (omega (arith, bandCode-small band)) in
       ap length (queue-read image band) ∙ length-part 1 (lengthByte (queueAt band image)) (queueAt band image) (omega arith)
 
-  -- the test passes exactly the bases that are accepted
-  pub accepts-base : Says (acceptsBase image) (AcceptedBase image)
-  unfolding acceptsBase slotFits placeFits bandFits coreFits stateAt
-  accepts-base =
-      Iff·trans (both (both (both (both (all-of (λ _. less) image)
-      (below (λ _. both (both (both less less) less) (both (both (both same-flag (never equal)) (either equal equal)) less))))
-      (bands (λ band. both at-most (below (λ _. by-place (ready-of band _) equal)))))
-      (below (λ _. implies same-state equal)))
-      (below (λ _. either equal may-hold))) (
-        λ ((((bytes, slots), queues), once), holders). record {
-          bytes = bytes;
-          bands = λ slot h. slots slot h .0 .0 .0;
-          states = λ slot h. slots slot h .0 .0 .1;
-          in-uses = λ slot h. slots slot h .0 .1;
-          lengths = λ band. queues band .0;
-          unused = λ band place past h. queues band .1 place h .1 past;
-          state = record {
-            slots = length-tasks image;
-            cores = length-part holdersPlace 64 image (omega arith);
-            in-use = λ slot h. slots slot h .1 .0 .0 .0;
-            masks = λ slot h. slots slot h .1 .0 .0 .1;
-            lengths = λ band. omega (arith, entries-are band (queues band .0), queues band .0);
-            entries = λ band place h.
-                let inside : place < lengthByte (queueAt band image) = omega (arith, entries-are band (queues band .0)) in
-                rw (entry-is image band place inside) (queues band .1 place (omega (arith, queues band .0)) .0 inside);
-            once = once;
-            holders = holders;
-            budgets = λ slot h. slots slot h .1 .0 .1;
-            consumed = λ slot h. slots slot h .1 .1;
-          };
-        },
-        λ a.
-            let s = a .state in
-            let entries : (band : QoSClass) (place : ℕ) → place < lengthByte (queueAt band image) →
-            ReadyOf band (task (stateAt image) (slotByte place (queueAt band image))) =
-            λ band place h. rw (entry-is image band place h) at (s .entries band place (omega (arith, entries-are band (a .lengths band)))) in
-            search (a .bands, a .states, a .in-uses, a .lengths, a .unused, entries, s .in-use, s .masks, s .once, s .holders, s .budgets, s .consumed)
-            depth 10,
-      )
+-- the test passes exactly the bases that are accepted
+pub accepts-base : (image : List ℕ) → Says (acceptsBase image) (AcceptedBase image)
+unfolding acceptsBase slotFits placeFits bandFits coreFits stateAt
+accepts-base image =
+    Iff·trans (both (both (both (both (both at-most (all-of (λ _. less) image))
+    (below (λ _. both (both (both less less) less) (both (both (both same-flag (never equal)) (either equal equal)) less))))
+    (bands (λ band. both at-most (below (λ _. by-place (ready-of band _) equal)))))
+    (below (λ _. implies same-state equal)))
+    (below (λ _. either equal may-hold))) (
+      λ (((((long, bytes), slots), queues), once), holders). record {
+        long = long;
+        bytes = bytes;
+        bands = λ slot h. slots slot h .0 .0 .0;
+        states = λ slot h. slots slot h .0 .0 .1;
+        in-uses = λ slot h. slots slot h .0 .1;
+        lengths = λ band. queues band .0;
+        unused = λ band place past h. queues band .1 place h .1 past;
+        state = record {
+          slots = length-tasks image;
+          cores = length-part holdersPlace 64 image (omega arith);
+          in-use = λ slot h. slots slot h .1 .0 .0 .0;
+          masks = λ slot h. slots slot h .1 .0 .0 .1;
+          lengths = λ band. omega (arith, entries-are image long band (queues band .0), queues band .0);
+          entries = λ band place h.
+              let inside : place < lengthByte (queueAt band image) = omega (arith, entries-are image long band (queues band .0)) in
+              rw (entry-is image band place inside) (queues band .1 place (omega (arith, queues band .0)) .0 inside);
+          once = once;
+          holders = holders;
+          budgets = λ slot h. slots slot h .1 .0 .1;
+          consumed = λ slot h. slots slot h .1 .1;
+        };
+      },
+      λ a.
+          let s = a .state in
+          let entries : (band : QoSClass) (place : ℕ) → place < lengthByte (queueAt band image) →
+          ReadyOf band (task (stateAt image) (slotByte place (queueAt band image))) =
+          λ band place h. rw (entry-is image band place h) at (s .entries band place (omega (arith, entries-are image (a .long) band (a .lengths band)))) in
+          search (a .long, a .bytes, a .bands, a .states, a .in-uses, a .lengths, a .unused, entries, s .in-use, s .masks, s .once, s .holders, s .budgets, s .consumed)
+          depth 10,
+    )
 
 -- the test passes exactly the images that are accepted
 pub accepts-image : (image : List ℕ) → Says (acceptsImage image) (AcceptedImage image)
 unfolding acceptsImage
 accepts-image image =
     Iff·trans (both equal Iff·rfl) (
-      λ (long, passed). record { length-is = long; base = accepts-base image (omega arith) .0 passed },
-      λ a. (a .length-is, accepts-base image (omega (arith, a .length-is)) .1 (a .base)),
+      λ (long, passed). record { length-is = long; base = accepts-base image .0 passed },
+      λ a. (a .length-is, accepts-base image .1 (a .base)),
     )
 
 -- the state that an accepted image stands for is accepted
@@ -185,6 +186,7 @@ module _ (s : State) (a : Accepted s) (fits : FitsImage s) where
   image-accepted =
       let read : stateAt (imageOf s) ≡ s = reads-back s a fits in
       let base : AcceptedBase (imageOf s) = record {
+        long = omega (arith, length-imageOf s a);
         bytes = image-bytes s a;
         bands = λ slot h. omega (arith, number-is slot h 1, bandCode-small (task s slot .qos));
         states = λ slot h. omega (arith, number-is slot h 2, stateCode-small (task s slot .state));

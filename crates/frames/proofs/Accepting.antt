@@ -23,7 +23,7 @@ use Rattle.rules.specs.Accepted.{recordFits, readyOf, onceIfReady, standsOnce, 
 use Rattle.rules.specs.State.{noneByte, bandOrder, task, queue}
 use Rattle.rules.proofs.Says.{Says, less, at-most, both, each, bands}
 use Rattle.frames.specs.Bytes.{part}
-use Rattle.frames.specs.Image.{imageLength, queuePlace, holdersPlace, recordIn, recordAt, queueAt, lengthByte, slotByte, stateAt}
+use Rattle.frames.specs.Image.{imageLength, baseLength, queuePlace, holdersPlace, recordIn, recordAt, queueAt, lengthByte, slotByte, stateAt}
 use Rattle.frames.specs.AcceptedImage.{codesFit, slotFits, placeFits, bandFits, coreFits, acceptsBase, acceptsImage}
 use Rattle.frames.specs.Private.{allZero, LengthsFit}
 use Rattle.frames.proofs.Images.{task-read, task-past, holder-byte}
@@ -195,7 +195,7 @@ module _ (image : List ℕ) where
     -- in the order in which the code asks
     accepts-is : acceptsImage image ≡ queues && (slots && once) && cores
     unfolding acceptsImage acceptsBase
-    accepts-is = rw (eq-eqb (length image) imageLength whole, bytes-are, and-comm slots queues, and-assoc queues slots once)
+    accepts-is = rw (eq-eqb (length image) imageLength whole, le-leb baseLength (length image) (omega (arith, whole)), bytes-are, and-comm slots queues, and-assoc queues slots once)
 
     pub accepts-queues : {r : Bool} → r ≡ queues → not r ≡ true → false ≡ acceptsImage image
     accepts-queues e h = sym (accepts-is ∙ rw (fails e h))

@@ -31,16 +31,19 @@ use Rattle.rules.specs.declared.call.Call.the-variants.{Plan, Task}
 use Rattle.rules.specs.Accepted.{Accepted}
 use Rattle.rules.specs.Outcome.{Outcome, Chosen, answered, refusal}
 use Rattle.rules.specs.Paper.{paper, statusNumber, pickNumbers, slotNumber, coreNumber, targetNumbers, valueNumbers}
-use Rattle.rules.specs.Picking.{choice, afterPick, ruleP}
+use Rattle.rules.specs.Picking.{afterPick, ruleP}
 use Rattle.rules.specs.Queries.{slotBelow, taskAt, holderRecord, currentTaskOnCpu, coreOf}
-use Rattle.rules.specs.State.{State, bandOrder, noneByte, holder, holderOf}
+use Rattle.rules.specs.State.{State, noneByte, holder, holderOf}
 use Rattle.rules.specs.Step.{step}
 use Rattle.rules.specs.Ticking.{staysHolder, gain, targetOf, same, planOf}
 use Rattle.rules.specs.Waking.{freeSlot, coreHolding}
 use Rattle.rules.proofs.Calls.{call-accepted}
 use Rattle.rules.specs.Took.{Reach}
-use Rattle.rules.proofs.Ways.{Telling, bySlot, byPlan, told, Tells, nobody, no-plan, a-flag, a-slot, a-core, a-record, a-holder, the-time, Deed, by-create, by-affinity, by-terminate, by-block, by-wake, by-queueing, Way, refuses, tells, does, keeps, comes, way}
-use Rattle.frames.specs.Answer.{valueWidths, valueBytes, answerBytes, pickIn}
+use Rattle.rules.proofs.Ways.{Picking, picks-one, picks-none, P-way, Telling, bySlot, byPlan, toldAs, Tells, nobody, no-plan, a-flag, a-slot, a-core}
+use Rattle.rules.proofs.Ways.{a-record, a-holder, the-time, Deed, by-create, by-affinity, by-terminate, by-block, by-wake, by-queueing, Way, refuses, tells}
+use Rattle.rules.proofs.Ways.{does, keeps, comes, way}
+use Rattle.frames.specs.Answer.{valueWidths, answerBytes, pickIn}
+use Rattle.frames.specs.Private.{valueBytes}
 use Rattle.frames.specs.Bytes.{bytesOf, written, numbersAt, Fit}
 use Rattle.frames.specs.Fits.{FitsAnswer}
 use Rattle.frames.specs.Image.{FitsImage}
@@ -91,18 +94,14 @@ abbrev NextFits : Chosen → Type 0
 NextFits c = Accepted (c .state) → SlotFits (c .next) × PickFits (c .pick)
 
 -- a pick is then the core's holder
-P-next : (s : State) (core : ℕ) → NextFits (ruleP core s)
-unfolding ruleP
-P-next s core = by-if NextFits (leb 64 core) (λ _ _. (omega arith, tt)) (λ low. after (leb-false 64 core low) (choice s core bandOrder))
-  where
-    after : core < 64 → (p : PickOption) → NextFits (afterPick s core p)
-    after low pick.None a = (omega arith, tt)
-    after low (pick.Some p) a =
-        let i : ℕ = p .slot .0 in
-        let t : State = afterPick s core (pick.Some p) .state in
-        let held : holder t core ≡ i = getD-set-same (s .holders) core i noneByte (omega (arith, a .cores, length-set (s .holders) core i)) in
-        let small : i < 256 = omega (arith, holder-small t a core) in
-        (small, small)
+P-next : (s : State) (c : ℕ) → c < 64 → {o : Chosen} → Picking s c o → NextFits o
+P-next s c low picks-none a = (omega arith, tt)
+P-next s c low (picks-one p) a =
+    let i : ℕ = p .slot .0 in
+    let t : State = afterPick s c (pick.Some p) .state in
+    let held : holder t c ≡ i = getD-set-same (s .holders) c i noneByte (omega (arith, a .cores, length-set (s .holders) c i)) in
+    let small : i < 256 = omega (arith, holder-small t a c) in
+    (small, small)
 
 -- ---- plans
 
@@ -117,7 +116,7 @@ plan-fits s b previous next from to =
 
 -- who is to run, told as a slot or as a plan, where the state that is left is accepted and bounded
 telling-fits : (how : Telling) (previous : SlotOption) (c : Chosen) → SlotFits previous → NextFits c → Accepted (c .state) → Bounded (c .state) →
-    FitsAnswer (told how previous c .answer)
+    FitsAnswer (toldAs how previous c .answer)
 unfolding Fit
 telling-fits bySlot previous c from next after b = answered-fits (c .pick) (value.Slot (c .next)) (next after .1) (next after .0, tt)
 telling-fits byPlan previous c from next after b =
@@ -174,19 +173,20 @@ module _ (s : State) (a : Accepted s) (f : FitsImage s) where
   deed-fits (by-create tid band context cr3 rsp0 low) = (let small : freeSlot s < 256 = omega (arith, low) in small, tt)
   deed-fits (by-affinity i mask low) = tt
   deed-fits (by-terminate i low) = tt
-  deed-fits (by-block i here) = tt
-  deed-fits (by-wake i here was) = tt
+  deed-fits (by-block i here awake) = tt
+  deed-fits (by-wake i here was held) = tt
   deed-fits (by-queueing i named here idle) = tt
 
   way-fits : {call : Call} {o : Outcome} {r : Reach} → Way s call o r → Accepted (o .state) → FitsAnswer (o .answer)
   way-fits (refuses e why) after = refusal-fits e
   way-fits (tells v of) after = answered-fits pick.None v tt (tells-fits of)
   way-fits (does v t deed) after = answered-fits pick.None v tt (deed-fits deed)
-  way-fits (keeps how c elapsed h is named on) after =
+  way-fits (keeps how c elapsed h low is named awake on) after =
       let from : SlotFits (slot.Some h) = subst SlotFits is (holder-fits s a c) in
       telling-fits how (slot.Some h) (staysHolder h elapsed (gain elapsed s)) from (λ _. (from, tt)) after (kept-bounded s (fits-bounded s f) h elapsed)
   way-fits (comes how previous c t u low on-it is by) after =
-      telling-fits how previous (ruleP c t) (subst SlotFits is (holder-fits s a c)) (P-next t c) after (came-bounded s (fits-bounded s f) by)
+      telling-fits how previous (ruleP c t) (subst SlotFits is (holder-fits s a c)) (P-next t c low (P-way t c low)) after
+      (came-bounded s (fits-bounded s f) low by)
 
 -- no number of an answer is too large for its field
 pub answer-fits-widths : (call : Call) (s : State) → Accepted s → FitsImage s → FitsAnswer (step call s .answer)

@@ -15,7 +15,8 @@ use lib.Seq.{sets, drop-cons}
 use Rattle.records.proofs.Cases.{split}
 use Rattle.records.specs.Lists.{Each, everyBelow}
 use Rattle.rules.proofs.Says.{equal, below}
-use Rattle.frames.specs.Hex.{within, isDigit, digitValue, digitOf, isHex, byteOf, fromHex, toHex, IsDigitValue}
+use Rattle.frames.specs.Hex.{within, isDigit, digitValue, digitOf, isHex, byteOf, fromHex, toHex}
+use Rattle.frames.specs.Private.{IsDigitValue}
 use Rattle.frames.specs.Bytes.{AllBytes}
 
 -- ---- one digit

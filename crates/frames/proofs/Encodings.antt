@@ -17,7 +17,8 @@ use Rattle.rules.specs.declared.answer.TaskOption.the-variants as task
 use Rattle.rules.specs.declared.answer.Value.{Value}
 use Rattle.rules.specs.declared.answer.Value.the-variants as value
 use Rattle.rules.specs.Paper.{statusNumber, pickNumbers, slotNumber, targetNumbers, valueNumbers, recordNumbers}
-use Rattle.frames.specs.Answer.{recordWidths, recordBytes, recordPart, valueWidths, valueBytes, answerBytes}
+use Rattle.frames.specs.Answer.{recordWidths, recordBytes, valueWidths, answerBytes}
+use Rattle.frames.specs.Private.{recordPart, valueBytes}
 use Rattle.frames.specs.Bytes.{Puts, part, bytesOf, written, total}
 use Rattle.frames.proofs.Runs.{behind, run-on}
 use Rattle.frames.proofs.Sizes.{length-written, written-append, length-valueBytes, length-pick, answerBytes-are, length-answerBytes}

@@ -33,7 +33,7 @@ use Rattle.frames.specs.Image.{imageLength, imageOf, stateAt}
 use Rattle.frames.proofs.AcceptedImages.{accepts-image}
 use Rattle.frames.proofs.Hosting.{step-short}
 use Rattle.frames.proofs.Images.{writes-back}
-use Rattle.frames.proofs.StatesFit.{called-image, new-has-image, image-has-image}
+use Rattle.frames.proofs.StatesFit.{call-has-image, new-has-image, image-has-image}
 use Rattle.frames.proofs.Statuses.{accepted-status}
 use Rattle.frames.proofs.Sizes.{answer-fits}
 
@@ -104,5 +104,5 @@ module _ (image : List ℕ) (a : AcceptedImage image) where
       AcceptedImage (callOnImage call image .image) × (stateAt (callOnImage call image .image) ≡ step call (stateAt image) .state)
   unfolding callOnImage
   called-accepted call fit =
-      let has : HasImage (step call (stateAt image) .state) = called-image call (stateAt image) fit (image-has-image image a) in
+      let has : HasImage (step call (stateAt image) .state) = call-has-image call (stateAt image) fit (image-has-image image a) in
       rw (accepted-status image a) (has .image-accepted, has .reads-as)

@@ -343,6 +343,6 @@ module _ (image : List ℕ) (long : baseLength ≤ length image) (a : AcceptedBa
 pub writes-back : (image : List ℕ) → AcceptedImage image → imageOf (stateAt image) ≡ image
 unfolding imageOf
 writes-back image a =
-    ap flatten (parts-again image (omega (arith, a .length-is)) (a .base))
+    ap flatten (parts-again image (a .base .long) (a .base))
     ∙ flatten-parts 0 partLengths image
     ∙ take-all imageLength image (omega (arith, a .length-is))

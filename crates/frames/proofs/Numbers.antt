@@ -9,7 +9,8 @@ use native.Mathlib.Numerals.{add-one}
 use lib.ListN.{length, getD, take, drop, set, length-append, length-drop}
 use lib.Seq.{sets, take-suc, take-all, getD-drop}
 use Rattle.records.specs.Lists.{Each}
-use Rattle.frames.specs.Bytes.{AllBytes, bigEndianFrom, bigEndian, bytesOf, written, IsNumber}
+use Rattle.frames.specs.Bytes.{AllBytes, bigEndianFrom, bigEndian, bytesOf, written}
+use Rattle.frames.specs.Private.{IsNumber}
 use Rattle.frames.proofs.Elements.{each-append}
 use Rattle.frames.proofs.Stores.{sets-snoc}
 

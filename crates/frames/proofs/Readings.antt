@@ -15,13 +15,14 @@ use Rattle.queue.specs.declared.BandQueue.{BandQueue}
 use Rattle.queue.specs.Stored.{Holds}
 use Rattle.scheduler.specs.declared.scheduler.QoSScheduler.{QoSScheduler}
 use Rattle.rules.specs.Accepted.{Accepted}
-use Rattle.scheduler.specs.Scheduler.{abs, IsNew, HoldQueues}
+use Rattle.scheduler.specs.Scheduler.{abs, IsNew, HoldsQueues}
 use Rattle.rules.specs.State.{queue}
 use Rattle.frames.specs.declared.read.ImageStatus.{ImageStatus}
 use Rattle.frames.specs.declared.read.ImageStatus.the-variants as read
 use Rattle.frames.specs.declared.refusal.HostError.{HostError}
 use Rattle.frames.specs.AcceptedImage.{AcceptedImage}
-use Rattle.frames.specs.Bytes.{part, IsNumber}
+use Rattle.frames.specs.Bytes.{part}
+use Rattle.frames.specs.Private.{IsNumber}
 use Rattle.frames.specs.ReadWrite.{imageStatus, readState, ReadAs, ReadsImage}
 use Rattle.frames.specs.Image.{holdersPlace, microsPlace, imageLength, queuePlace, recordIn, recordAt, queueAt, lengthByte, stateAt}
 use Rattle.frames.proofs.AcceptedImages.{accepted-state}
@@ -86,21 +87,23 @@ module _ (image : List ℕ) (long : length image ≡ imageLength) where
       ∙ drop-at (part (queuePlace band) 1 image) _ 1 (length-part (queuePlace band) 1 image (omega (arith, long, bandCode-small band)))
 
   pub queue-holds : (band : QoSClass) (before : List ℕ) {at width n : ℕ} {places : List ℕ} {q : BandQueue} → at ≡ queuePlace band → width ≡ 64 →
-      length before ≡ 64 → places ≡ sets before 0 (part (at + 1) width image) → n ≡ lengthByte (queueAt band image) → Holds q (take n places) → Holds q (queue (stateAt image) band)
+      length before ≡ 64 → places ≡ sets before 0 (part (at + 1) width image) → n ≡ lengthByte (queueAt band image) →
+      Holds q (take n places) → Holds q (queue (stateAt image) band)
   queue-holds band before {at} {width} {n} {places} {q} place wide size is len holds =
       let there : places ≡ drop 1 (queueAt band image) =
       copied (queuePlace band + 1) 64 before (omega (arith, bandCode-small band)) size (is ∙ (λ i. sets before 0 (part (place i + 1) (wide i) image)))
       ∙ sym (places-behind band) in
       subst (Holds q) ((λ i. take (len i) (there i)) ∙ sym (queue-read image band)) holds
 
-  pub holders-are : (before : List ℕ) {after : List ℕ} → length before ≡ 64 → after ≡ sets before 0 (part holdersPlace 64 image) → after ≡ stateAt image .holders
+  pub holders-are : (before : List ℕ) {after : List ℕ} → length before ≡ 64 → after ≡ sets before 0 (part holdersPlace 64 image) →
+      after ≡ stateAt image .holders
   unfolding stateAt
   holders-are before size is = copied holdersPlace 64 before (omega arith) size is
 
 -- the scheduler with its records read so far, and all that is not a record
 pub record Reading (image : List ℕ) (slot : ℕ) (s : QoSScheduler) : Type 0 where
   pub records : Recording image slot (s .tasks)
-  pub queues : HoldQueues (s .queues) (stateAt image .queues)
+  pub queues : HoldsQueues (s .queues) (stateAt image .queues)
   pub holders : s .current ≡ stateAt image .holders
   pub micros : IsNumber microsPlace 8 image (s .«system_ticks_us»)
 

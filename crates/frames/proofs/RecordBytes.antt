@@ -14,7 +14,8 @@ use Rattle.records.specs.declared.task.TaskControlBlock.{TaskControlBlock}
 use Rattle.records.specs.Band.{slice, codedBand}
 use Rattle.records.specs.ThreadState.{codedState, isState}
 use Rattle.rules.specs.Accepted.{recordFits, mayHold}
-use Rattle.frames.specs.Bytes.{numberAt, IsNumber}
+use Rattle.frames.specs.Bytes.{numberAt}
+use Rattle.frames.specs.Private.{IsNumber}
 use Rattle.frames.specs.Image.{orEmptyBand, bandOf, orEmptyState, stateOf, recordIn}
 use Rattle.frames.specs.AcceptedImage.{codesFit}
 use Rattle.frames.proofs.Passing.{fails, holds}

@@ -22,7 +22,8 @@ use Rattle.rules.specs.State.{State}
 use Rattle.rules.specs.Step.{step}
 use Rattle.frames.specs.declared.decode.CallOption.{CallOption}
 use Rattle.frames.specs.declared.decode.CallOption.the-variants as call
-use Rattle.frames.specs.Answer.{recordWidths, recordBytes, valueWidths, valueBytes, answerBytes}
+use Rattle.frames.specs.Answer.{recordWidths, recordBytes, valueWidths, answerBytes}
+use Rattle.frames.specs.Private.{valueBytes}
 use Rattle.frames.specs.Bytes.{bytesOf, written, total}
 use Rattle.frames.specs.Lines.{said, saidTo, lineCall}
 use Rattle.frames.proofs.Numbers.{length-bytesOf}

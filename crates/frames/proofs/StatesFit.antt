@@ -6,8 +6,8 @@ use mathlib.Core.List.{List, [], _∷_}
 use mathlib.Core.Logic.{⊎-elim}
 use Prim.Native.Nat.{ℕ, _<_, _^_}
 use native.Mathlib.Omega.{arith}
-use lib.Dec.{leb, eqb}
-use lib.ListN.{length, getD-replicate}
+use lib.Dec.{eqb}
+use lib.ListN.{length, getD-replicate, drop}
 use Rattle.records.specs.declared.band.BandOption.{BandOption}
 use Rattle.records.specs.declared.band.BandOption.the-variants as band
 use Rattle.records.specs.declared.band.QoSClass.{QoSClass}
@@ -19,28 +19,27 @@ use Rattle.records.specs.declared.task.TaskControlBlock.{TaskControlBlock}
 use Rattle.records.specs.Band.{bandCode, codedBand, slice}
 use Rattle.records.specs.Lists.{Each}
 use Rattle.records.specs.Mask.{storedMask}
-use Rattle.records.specs.ThreadState.{stateCode, isState}
+use Rattle.records.specs.ThreadState.{stateCode}
 use Rattle.records.specs.Task.{emptyRecord, created, withState, withMask, withConsumed, terminated, blocked, picked}
 use Rattle.records.proofs.Bands.{bandCode-small}
 use Rattle.records.proofs.Cases.{by-if}
 use Rattle.records.proofs.States.{stateCode-small}
-use Rattle.queue.specs.Entries.{full}
-use Rattle.rules.specs.declared.answer.PickOption.{PickOption}
-use Rattle.rules.specs.declared.answer.PickOption.the-variants as pick
 use Rattle.rules.specs.declared.call.Call.{Call}
 use Rattle.rules.specs.Accepted.{Accepted}
 use Rattle.rules.specs.Outcome.{Outcome, Chosen}
 use Rattle.rules.specs.Paper.{flagNumber}
-use Rattle.rules.specs.Picking.{choice, afterPick, ruleP}
-use Rattle.rules.specs.State.{State, newState, bandOrder, task, queue, withTask}
+use Rattle.rules.specs.Picking.{ruleP}
+use Rattle.rules.specs.State.{State, newState, task, withTask}
 use Rattle.rules.specs.Step.{step}
-use Rattle.rules.specs.Ticking.{staysHolder, gain, charged, requeued}
-use Rattle.rules.specs.Waking.{freeSlot, missing, enqueue}
+use Rattle.rules.specs.Ticking.{staysHolder, gain, charged}
+use Rattle.rules.specs.Waking.{freeSlot}
 use Rattle.rules.proofs.Calls.{new-accepted, call-accepted}
 use Rattle.rules.proofs.Invariant.{Good, empty-good, everywhere, accepted-invariant}
 use Rattle.rules.specs.declared.answer.Value.{Value}
 use Rattle.rules.specs.Took.{Reach}
-use Rattle.rules.proofs.Ways.{Deed, by-create, by-affinity, by-terminate, by-block, by-wake, by-queueing, Timed, at-once, later, Approach, straight, clearing, slice-over, yielding, Way, refuses, tells, does, keeps, comes, way}
+use Rattle.rules.proofs.Ways.{Picking, picks-one, picks-none, P-way, Requeued, queued, not-queued, requeued-way, Deed, by-create, by-affinity, by-terminate}
+use Rattle.rules.proofs.Ways.{by-block, by-wake, by-queueing, Timed, at-once, later, Approach, straight, clearing, slice-over, yielding, Way, refuses, tells}
+use Rattle.rules.proofs.Ways.{does, keeps, comes, way}
 use Rattle.frames.specs.declared.decode.CallOption.{CallOption}
 use Rattle.frames.specs.declared.decode.CallOption.the-variants.{None, Some}
 use Rattle.frames.specs.AcceptedImage.{AcceptedImage}
@@ -111,16 +110,9 @@ mask-small : (mask : ℕ) → mask < 256 ^ 8 → storedMask mask < 256 ^ 8
 mask-small mask small = by-if (λ (m : ℕ). m < 256 ^ 8) (eqb mask 0) (λ _. omega arith) (λ _. small)
 
 -- no record is given other numbers, but by create and affinity
-P-bounded : (core : ℕ) (s : State) → Bounded s → Bounded (ruleP core s .state)
-unfolding ruleP
-P-bounded core s b = by-if Ends (leb 64 core) (λ _. b) (λ _. after (choice s core bandOrder))
-  where
-    Ends : Chosen → Type 0
-    Ends c = Bounded (c .state)
-
-    after : (p : PickOption) → Ends (afterPick s core p)
-    after pick.None = b
-    after (pick.Some p) = put s (p .slot .0) (picked (task s (p .slot .0))) (b .0 (p .slot .0)) b
+P-bounded : (c : ℕ) (s : State) {o : Chosen} → Picking s c o → Bounded s → Bounded (o .state)
+P-bounded c s (picks-one p) b = put s (p .slot .0) (picked (task s (p .slot .0))) (b .0 (p .slot .0)) b
+P-bounded c s picks-none b = b
 
 consumed-bounded : (i n : ℕ) (s : State) → Bounded s → Bounded (withTask s i (withConsumed (task s i) n))
 consumed-bounded i n s b = put s i (withConsumed (task s i) n) (b .0 i) b
@@ -129,15 +121,9 @@ consumed-bounded i n s b = put s i (withConsumed (task s i) n) (b .0 i) b
 gained-bounded : (elapsed : ℕ) (s : State) → Bounded s → Bounded (gain elapsed s)
 gained-bounded elapsed s b = (b .0, omega arith)
 
-requeued-bounded : (i : ℕ) (s : State) → Bounded s → Bounded (requeued i s)
-unfolding enqueue
-requeued-bounded i s b =
-    let t : State = withTask s i (withConsumed (task s i) 0) in
-    let Ends : Outcome → Type 0 = λ (o : Outcome). Bounded (o .state) in
-    let c : Bounded t = consumed-bounded i 0 s b in
-    by-if Ends (missing t i) (λ _. c) (λ _.
-    by-if Ends (isState (task t i .state) Ready) (λ _. c) (λ _.
-    by-if Ends (full (queue t (task t i .qos))) (λ _. c) (λ _. put t i (withState (task t i) Ready) (c .0 i) c)))
+queued-bounded : (i : ℕ) {s t : State} → Requeued i s t → Bounded s → Bounded t
+queued-bounded i {s} queued b = put s i (withState (task s i) Ready) (b .0 i) b
+queued-bounded i not-queued b = b
 
 module _ (s : State) (b : Bounded s) where
   deed-bounded : {call : Call} {v : Value} {t : State} → Deed s call v t → FitsCall call → Bounded t
@@ -148,8 +134,8 @@ module _ (s : State) (b : Bounded s) where
       let old = b .0 (i .0) in
       put s (i .0) (withMask (task s (i .0)) (storedMask mask)) (old .0, (old .1 .0, (old .1 .1 .0, (old .1 .1 .1 .0, (mask-small mask fit, tt))))) b
   deed-bounded (by-terminate i low) fit = put s (i .0) (terminated (task s (i .0))) (b .0 (i .0)) b
-  deed-bounded (by-block i here) fit = put s (i .0) (blocked (task s (i .0))) (b .0 (i .0)) b
-  deed-bounded (by-wake i here was) fit = put s (i .0) (withState (task s (i .0)) Running) (b .0 (i .0)) b
+  deed-bounded (by-block i here awake) fit = put s (i .0) (blocked (task s (i .0))) (b .0 (i .0)) b
+  deed-bounded (by-wake i here was held) fit = put s (i .0) (withState (task s (i .0)) Running) (b .0 (i .0)) b
   deed-bounded (by-queueing i named here idle) fit = put s i (withState (task s i) Ready) (b .0 i) b
 
   timed-bounded : {u : State} → Timed s u → Bounded u
@@ -158,23 +144,24 @@ module _ (s : State) (b : Bounded s) where
 
   approach-bounded : {call : Call} {c : ℕ} {t u : State} → Approach s call c t u → Bounded t
   approach-bounded (straight gone) = timed-bounded gone
-  approach-bounded (clearing gone) = timed-bounded gone
-  approach-bounded (slice-over elapsed h is named) = requeued-bounded (h .0) (gain elapsed s) (gained-bounded elapsed s b)
+  approach-bounded (clearing gone h is blocked) = timed-bounded gone
+  approach-bounded (slice-over elapsed h is named awake ended) =
+      queued-bounded (h .0) (requeued-way (h .0) (gain elapsed s)) (consumed-bounded (h .0) 0 (gain elapsed s) (gained-bounded elapsed s b))
   approach-bounded (yielding h is named idle) = put s (h .0) (withState (task s (h .0)) Ready) (b .0 (h .0)) b
 
   -- a holder that is charged and stays, and P
   pub kept-bounded : (h : Slot) (elapsed : ℕ) → Bounded (staysHolder h elapsed (gain elapsed s) .state)
   kept-bounded h elapsed = consumed-bounded (h .0) (charged (h .0) elapsed s) (gain elapsed s) (gained-bounded elapsed s b)
 
-  pub came-bounded : {call : Call} {c : ℕ} {t u : State} → Approach s call c t u → Bounded (ruleP c t .state)
-  came-bounded {c = c} {t} by = P-bounded c t (approach-bounded by)
+  pub came-bounded : {call : Call} {c : ℕ} {t u : State} → c < 64 → Approach s call c t u → Bounded (ruleP c t .state)
+  came-bounded {c = c} {t} low by = P-bounded c t (P-way t c low) (approach-bounded by)
 
   way-bounded : {call : Call} {o : Outcome} {r : Reach} → Way s call o r → FitsCall call → Bounded (o .state)
   way-bounded (refuses e why) fit = b
   way-bounded (tells v of) fit = b
   way-bounded (does v t deed) fit = deed-bounded deed fit
-  way-bounded (keeps how c elapsed h is named on) fit = kept-bounded h elapsed
-  way-bounded (comes how previous c t u low on-it is by) fit = came-bounded by
+  way-bounded (keeps how c elapsed h low is named awake on) fit = kept-bounded h elapsed
+  way-bounded (comes how previous c t u low on-it is by) fit = came-bounded low by
 
   pub call-bounded : (call : Call) → FitsCall call → Bounded (step call s .state)
   call-bounded call = way-bounded (way call s)
@@ -184,8 +171,8 @@ pub kept-fits : (call : Call) (s : State) → Accepted s → FitsCall call → F
 kept-fits call s a fit f = bounded-fits (step call s .state) (call-accepted call s a) (call-bounded s (fits-bounded s f) call fit)
 
 -- so of a state that has an image it makes one that has
-pub called-image : (call : Call) (s : State) → FitsCall call → HasImage s → HasImage (step call s .state)
-called-image call s fit has =
+pub call-has-image : (call : Call) (s : State) → FitsCall call → HasImage s → HasImage (step call s .state)
+call-has-image call s fit has =
     has-image (step call s .state) (call-accepted call s (has .accepted)) (kept-fits call s (has .accepted) fit (has .fits))
 
 -- ---- where lists of calls start
@@ -232,7 +219,9 @@ module _ (frame : List ℕ) (h : AllBytes frame) where
   -- the table of calls
   table-fits : Each FitsRead (callsIn frame)
   unfolding Each
-  table-fits = (create-fits (codedBand (numberAt 5 1 frame)), (number-small 9 8 frame h, (tt, (tt, (tt, (tt, (tt, (tt, (tt, (tt, (tt, (tt, (tt, (tt, (tt, (tt, (tt, tt)))))))))))))))))
+  table-fits =
+      let rest : Each FitsRead (drop 2 (callsIn frame)) = (tt, (tt, (tt, (tt, (tt, (tt, (tt, (tt, (tt, (tt, (tt, (tt, (tt, (tt, (tt, tt))))))))))))))) in
+      (create-fits (codedBand (numberAt 5 1 frame)), (number-small 9 8 frame h, rest))
 
 read-fits : (frame : List ℕ) → AllBytes frame → FitsRead (frameCall frame)
 unfolding frameCall
@@ -249,7 +238,7 @@ frame-fits frame call h is = subst FitsRead is (read-fits frame h)
 -- what a frame makes of a state that has an image has one too
 said-image : (c : CallOption) (s : State) → FitsRead c → HasImage s → HasImage (said c s .state)
 said-image None s fit has = has
-said-image (Some call) s fit has = called-image call s fit has
+said-image (Some call) s fit has = call-has-image call s fit has
 
 pub frame-image : (frame : List ℕ) (s : State) → AllBytes frame → HasImage s → HasImage (said (frameCall frame) s .state)
 frame-image frame s h = said-image (frameCall frame) s (read-fits frame h)

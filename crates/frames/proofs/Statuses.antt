@@ -9,6 +9,7 @@ use lib.Dec.{eqb}
 use lib.ListN.{length}
 use Rattle.records.proofs.Cases.{split}
 use Rattle.rules.specs.Accepted.{Accepted}
+use Rattle.frames.specs.declared.read.ImageStatus.{ImageStatus}
 use Rattle.frames.specs.declared.read.ImageStatus.the-variants as read
 use Rattle.frames.specs.declared.refusal.HostError.the-variants.{WrongLength, NotAccepted}
 use Rattle.frames.specs.AcceptedImage.{AcceptedImage, acceptsImage}
@@ -25,19 +26,19 @@ module _ (image : List ℕ) where
   unfolding imageStatus
   status-refused {r} long is h = sym (rw (eq-eqb (length image) imageLength long, sym is ∙ not-true r h))
 
-  pub status-accepted : {r : Bool} → length image ≡ imageLength → r ≡ acceptsImage image → not r ≡ false → read.Accepted ≡ imageStatus image
+  pub status-passed : {r : Bool} → length image ≡ imageLength → r ≡ acceptsImage image → not r ≡ false → read.Accepted ≡ imageStatus image
   unfolding imageStatus
-  status-accepted {r} long is h = sym (rw (eq-eqb (length image) imageLength long, sym is ∙ not-false r h))
+  status-passed {r} long is h = sym (rw (eq-eqb (length image) imageLength long, sym is ∙ not-false r h))
 
   -- accepted is what the conditions say
   pub accepted-status : AcceptedImage image → imageStatus image ≡ read.Accepted
-  accepted-status a = sym (status-accepted (a .length-is) refl (ap not (accepts-image image .1 a)))
+  accepted-status a = sym (status-passed (a .length-is) refl (ap not (accepts-image image .1 a)))
 
   pub status-says : imageStatus image ≡ read.Accepted → AcceptedImage image
   unfolding imageStatus
   status-says =
-      split (λ (b : Bool). cond (not b) (read.Refused WrongLength) (cond (not (acceptsImage image)) (read.Refused NotAccepted) read.Accepted) ≡ read.Accepted → AcceptedImage image)
-      (eqb (length image) imageLength)
+      let then : ImageStatus = cond (not (acceptsImage image)) (read.Refused NotAccepted) read.Accepted in
+      split (λ (b : Bool). cond (not b) (read.Refused WrongLength) then ≡ read.Accepted → AcceptedImage image) (eqb (length image) imageLength)
       (λ _. split (λ (b : Bool). cond (not b) (read.Refused NotAccepted) read.Accepted ≡ read.Accepted → AcceptedImage image) (acceptsImage image)
       (λ yes _. accepts-image image .0 yes)
       (λ _ e. let never : _≡_ {A = ℕ} 0 1 = cc in absurd (omega arith)))

@@ -100,9 +100,11 @@ length-flatten (piece ∷ parts) = length-append piece (flatten parts) ∙ ap (�
 -- ---- numbers
 
 -- a number that stands at a place, written again
-pub bytesOf-numberAt : (at width : ℕ) (bytes : List ℕ) → AllBytes bytes → at + width ≤ length bytes → bytesOf width (numberAt at width bytes) ≡ part at width bytes
+pub bytesOf-numberAt : (at width : ℕ) (bytes : List ℕ) → AllBytes bytes → at + width ≤ length bytes →
+    bytesOf width (numberAt at width bytes) ≡ part at width bytes
 bytesOf-numberAt at width bytes h le =
-    ap (λ (n : ℕ). bytesOf n (numberAt at width bytes)) (sym (length-part at width bytes le)) ∙ bytesOf-bigEndian (part at width bytes) (bytes-part at width bytes h)
+    ap (λ (n : ℕ). bytesOf n (numberAt at width bytes)) (sym (length-part at width bytes le))
+    ∙ bytesOf-bigEndian (part at width bytes) (bytes-part at width bytes h)
 
 -- a number that is read fits its width
 bigEndian-small : (before : ℕ) (bytes : List ℕ) → AllBytes bytes → bigEndianFrom before bytes < suc before * 256 ^ length bytes

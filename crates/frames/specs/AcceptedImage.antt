@@ -13,7 +13,7 @@ use Rattle.rules.specs.Accepted.{Accepted, recordFits, readyOf, standsOnce, hol
 use Rattle.rules.specs.State.{bandOrder, task, holder}
 use Rattle.frames.specs.Answer.{recordWidths}
 use Rattle.frames.specs.Bytes.{AllBytes, numbersAt}
-use Rattle.frames.specs.Image.{imageLength, recordAt, queueAt, lengthByte, slotByte, stateAt}
+use Rattle.frames.specs.Image.{imageLength, baseLength, recordAt, queueAt, lengthByte, slotByte, stateAt}
 
 -- the codes of a record's 47 bytes
 abbrev pub bandByte : List ℕ → ℕ
@@ -27,8 +27,10 @@ inUseByte bytes = getD (numbersAt 0 recordWidths bytes) 9 0
 
 -- ---- the conditions
 
--- what is asked of Image.antt's four parts, whatever stands behind them
+-- Of the four parts, "64 records (3,008), three queues [..] (195), holders (64), system microseconds (8)": they are there, and are as document 01 asks.
+-- Of what stands behind them only that it is bytes.
 pub record AcceptedBase (image : List ℕ) : Type 0 where
+  pub long : baseLength ≤ length image
   pub bytes : AllBytes image
   -- "band, state and in-use codes are as above"
   pub bands : (slot : ℕ) → slot < 64 → bandByte (recordAt slot image) < 3
@@ -40,7 +42,7 @@ pub record AcceptedBase (image : List ℕ) : Type 0 where
   pub unused : (band : QoSClass) (place : ℕ) → lengthByte (queueAt band image) ≤ place → place < 64 → slotByte place (queueAt band image) ≡ 0
   -- these are fields of Accepted: "in use is 0 exactly for Terminated; no mask is 0; [..] every queue entry is a Ready slot of that band; every Ready
   -- slot stands in the queues once; every holder is 255 or a slot in use whose budget is its slice; every budget is 0 or its slice; every consumed is
-  -- below its slice"
+  -- below its slice". An entry there is a slot byte before the length (`entries-are`, `entry-is` in proofs/AcceptedImages).
   pub state : Accepted (stateAt image)
 
 pub record AcceptedImage (image : List ℕ) : Type 0 where
@@ -72,6 +74,7 @@ coreFits image core = holderFits (stateAt image) (holder (stateAt image) core)
 
 unfoldable pub acceptsBase : List ℕ → Bool
 acceptsBase image =
+    leb baseLength (length image) &&
     every (λ b. ltb b 256) image &&
     everyBelow 64 (slotFits image) &&
     every (bandFits image) bandOrder &&

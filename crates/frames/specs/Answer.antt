@@ -10,8 +10,8 @@ use Rattle.rules.specs.declared.answer.TaskOption.{TaskOption}
 use Rattle.rules.specs.declared.answer.TaskOption.the-variants as task
 use Rattle.rules.specs.declared.answer.Value.{Value}
 use Rattle.rules.specs.declared.answer.Value.the-variants as value
-use Rattle.rules.specs.Paper.{paper, recordNumbers, valueNumbers}
-use Rattle.frames.specs.Bytes.{part, written}
+use Rattle.rules.specs.Paper.{paper, recordNumbers}
+use Rattle.frames.specs.Bytes.{written}
 
 -- "A record is 47 bytes [..] tid 4, band 1, state 1, context 8, cr3 8, rsp0 8, mask 8, budget 4, consumed 4, in use 1"
 abbrev pub recordWidths : List ℕ
@@ -19,10 +19,6 @@ recordWidths = 4 ∷ 1 ∷ 1 ∷ 8 ∷ 8 ∷ 8 ∷ 8 ∷ 4 ∷ 4 ∷ 1 ∷ []
 
 unfoldable pub recordBytes : TaskControlBlock → List ℕ
 recordBytes t = written recordWidths (recordNumbers t)
-
--- some of its numbers, from one on
-abbrev pub recordPart : ℕ → ℕ → TaskControlBlock → List ℕ
-recordPart from n t = written (part from n recordWidths) (part from n (recordNumbers t))
 
 -- "for plans 00, or 01, previous byte (ff none), target byte (ff idle), cr3 8 (0 if idle)"
 abbrev pub planWidths : PlanOption → List ℕ
@@ -43,9 +39,6 @@ valueWidths (value.Plan p) = planWidths p
 valueWidths (value.Flag b) = 1 ∷ []
 valueWidths (value.Task t) = taskWidths t
 valueWidths (value.Micros n) = 8 ∷ []
-
-unfoldable pub valueBytes : Value → List ℕ
-valueBytes v = written (valueWidths v) (valueNumbers v)
 
 -- "An answer is status (0 or the refusal), pick slot and pick band (ff ff for none), then the value"
 unfoldable pub answerBytes : Answer → List ℕ

@@ -55,11 +55,6 @@ abbrev pub total : List ℕ → ℕ
 total [] = 0
 total (width ∷ widths) = width + total widths
 
--- r is the number that stands at a place, and so fits its width
-pub record IsNumber (at width : ℕ) (bytes : List ℕ) (r : ℕ) : Type 0 where
-  pub is : r ≡ numberAt at width bytes
-  pub small : r < 256 ^ width
-
 -- these bytes stored from a place on, the rest of the buffer as it was, and their number answered; a place past the buffer's end takes nothing
 pub record Puts (bytes : List ℕ) (at : ℕ) (before after : List ℕ) (r : ℕ) : Type 0 where
   pub buffer-is : after ≡ sets before at bytes

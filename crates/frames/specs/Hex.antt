@@ -1,8 +1,7 @@
 -- Document 01, "Call frames": "A line is lower-case hexadecimal, two digits a byte".
 use mathlib.Core.Bool.{Bool, true, false, cond, _&&_, _||_}
 use mathlib.Core.List.{List, [], _∷_}
-use Prim.Native.Nat.{ℕ, _+_, _-_, _*_, _/_, _%_, _<_}
-use mathlib.Core.Path.{_≡_}
+use Prim.Native.Nat.{ℕ, _+_, _-_, _*_, _/_, _%_}
 use lib.Dec.{leb}
 
 -- 0 to 9 are the bytes 48 to 57, a to f the bytes 97 to 102
@@ -40,8 +39,3 @@ fromHex (d ∷ e ∷ digits) = byteOf d e ∷ fromHex digits
 unfoldable pub toHex : List ℕ → List ℕ
 toHex [] = []
 toHex (b ∷ bytes) = digitOf (b / 16) ∷ digitOf (b % 16) ∷ toHex bytes
-
--- r is what a digit stands for, and so below 16
-pub record IsDigitValue (d r : ℕ) : Type 0 where
-  pub is : r ≡ digitValue d
-  pub small : r < 16

@@ -1,5 +1,5 @@
--- Document 01, "Call frames": "The host kernel, written in C, passes image, frame bytes and answer buffer." What a call
--- makes of an image, and what a frame makes of an image and a buffer: the table of refusals in its order, on lists of bytes.
+-- Document 01, "Call frames": "The host kernel, written in C, passes image, frame bytes and answer buffer." A new image, what a
+-- call makes of an image, and what a frame makes of an image and a buffer: the table of refusals in its order, on lists of bytes.
 use mathlib.Core.Bool.{Bool, cond, not, _||_}
 use mathlib.Core.List.{List}
 use Prim.Native.Nat.{ℕ, _+_}

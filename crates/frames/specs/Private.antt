@@ -2,11 +2,13 @@
 use mathlib.Core.Path.{_≡_}
 use mathlib.Core.Bool.{Bool, cond}
 use mathlib.Core.List.{List, [], _++_}
-use Prim.Native.Nat.{ℕ, _+_, _≤_, _<_, _-_}
+use Prim.Native.Nat.{ℕ, _+_, _-_, _≤_, _<_, _^_}
 use lib.Dec.{eqb, leb}
 use lib.ListN.{length, getD, take}
 use Rattle.rules.specs.declared.answer.Answer.{Answer}
 use Rattle.rules.specs.declared.call.Call.{Call}
+use Rattle.rules.specs.declared.answer.Value.{Value}
+use Rattle.rules.specs.Paper.{recordNumbers, valueNumbers}
 use Rattle.rules.specs.State.{Queues, ofBand}
 use Rattle.rules.specs.Step.{step}
 use Rattle.frames.specs.declared.read.ImageStatus.{ImageStatus}
@@ -15,13 +17,37 @@ use Rattle.frames.specs.declared.refusal.HostError.{HostError}
 use Rattle.frames.specs.declared.refusal.HostError.the-variants.{NoFrame}
 use Rattle.frames.specs.Image.{imageOf, stateAt, queueAt, lengthByte}
 use Rattle.records.specs.declared.band.QoSClass.{QoSClass}
+use Rattle.records.specs.declared.task.TaskControlBlock.{TaskControlBlock}
 use Rattle.records.specs.Lists.{every, count}
 use Rattle.frames.specs.declared.stream.Fed.{Fed}
 use Rattle.frames.specs.declared.stream.Stream.{Stream}
-use Rattle.frames.specs.Bytes.{Puts}
+use Rattle.frames.specs.Answer.{recordWidths, valueWidths}
+use Rattle.frames.specs.Bytes.{part, numberAt, written, Puts}
+use Rattle.frames.specs.Hex.{digitValue}
 use Rattle.frames.specs.Lines.{lineText}
 use Rattle.frames.specs.ReadWrite.{imageStatus}
 use Rattle.frames.specs.Stream.{heldOf, heldIn, ValidStream, heldMost}
+
+-- ---- numbers and digits
+
+-- r is the number that stands at a place, and so fits its width
+pub record IsNumber (at width : ℕ) (bytes : List ℕ) (r : ℕ) : Type 0 where
+  pub is : r ≡ numberAt at width bytes
+  pub small : r < 256 ^ width
+
+-- r is what a digit stands for, and so below 16
+pub record IsDigitValue (d r : ℕ) : Type 0 where
+  pub is : r ≡ digitValue d
+  pub small : r < 16
+
+-- ---- parts of an answer
+
+-- some of a record's numbers, from one on
+abbrev pub recordPart : ℕ → ℕ → TaskControlBlock → List ℕ
+recordPart from n t = written (part from n recordWidths) (part from n (recordNumbers t))
+
+unfoldable pub valueBytes : Value → List ℕ
+valueBytes v = written (valueWidths v) (valueNumbers v)
 
 -- ---- writing an image
 

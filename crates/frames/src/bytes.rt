@@ -4,7 +4,8 @@ ghost use mathlib.Core.Path.{_≡_};
 ghost use Prim.Native.Nat.{_+_, _^_, _≤_, _<_};
 ghost use lib.ListN.{length};
 ghost use lib.Seq.{sets};
-ghost use Rattle.frames.specs.Bytes.{IsNumber, bytesOf};
+ghost use Rattle.frames.specs.Bytes.{bytesOf};
+ghost use Rattle.frames.specs.Private.{IsNumber};
 
 // The number in `width` bytes from `at` on. Bytes past the end of the slice are not there: a number that runs over it is
 // read from those before.

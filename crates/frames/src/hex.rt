@@ -3,7 +3,8 @@ ghost use mathlib.Core.Path.{_≡_};
 ghost use Prim.Native.Nat.{_+_, _*_, _<_, _≤_};
 ghost use lib.ListN.{length};
 ghost use lib.Seq.{sets};
-ghost use Rattle.frames.specs.Hex.{within, isDigit, IsDigitValue, digitOf, isHex, fromHex, toHex};
+ghost use Rattle.frames.specs.Hex.{within, isDigit, digitOf, isHex, fromHex, toHex};
+ghost use Rattle.frames.specs.Private.{IsDigitValue};
 
 // Whether a line is digits alone, two for each byte.
 pub(crate) fn is_hex(line: &[u8]) -> bool

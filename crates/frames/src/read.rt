@@ -2,7 +2,7 @@
 ghost use mathlib.Core.Path.{_≡_};
 ghost use lib.ListN.{length};
 ghost use Rattle.queue.specs.Stored.{Holds};
-ghost use Rattle.scheduler.specs.Scheduler.{HoldQueues};
+ghost use Rattle.scheduler.specs.Scheduler.{HoldsQueues};
 ghost use Rattle.rules.specs.State.{queue};
 ghost use Rattle.frames.specs.AcceptedImage.{AcceptedImage};
 ghost use Rattle.frames.specs.ReadWrite.{imageStatus, ReadsImage, ReadAs};
@@ -111,7 +111,7 @@ pub(crate) fn state_at(image: &[u8]) -> QoSScheduler
 // Every band's queue.
 fn queues_at(image: &[u8]) -> [BandQueue; BAND_COUNT]
     requires { ⌜ length (now image) ≡ imageLength ⌝ }
-    ensures { λ r. ⌜ HoldQueues r (stateAt (now (image .entry)) .queues) ⌝ }
+    ensures { λ r. ⌜ HoldsQueues r (stateAt (now (image .entry)) .queues) ⌝ }
 {
     let first = queue_in(image, QoSClass::UserInteractive);
     let second = queue_in(image, QoSClass::RealTimeIO);

@@ -1,5 +1,5 @@
 -- Document 01's rules for a queue, on its list of entries from front to tail: the table of refusals (full), "Waiting and waking" (push and
--- removal), "Picking" (the entry at a place, and taking it) and "Task record, queues, holders" (places, count).
+-- removal), "Picking" (the entry at a place, and taking it) and "Task record, queues, holders" (places).
 use mathlib.Core.Bool.{Bool, cond, not, _&&_}
 use mathlib.Core.List.{List, [], _∷_, _++_}
 use Prim.Native.Nat.{ℕ, suc, _-_}

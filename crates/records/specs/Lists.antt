@@ -1,4 +1,4 @@
--- Lists and tests on them, which definitions of every crate use. None of it is about tasks.
+-- Lists and tests on them, for the definitions of the crates above. None of it is about tasks.
 use mathlib.Core.Bool.{Bool, true, false, cond, _&&_, _||_}
 use mathlib.Core.List.{List, [], _∷_}
 use Prim.Native.Nat.{ℕ, zero, suc, _+_}

@@ -27,7 +27,9 @@ use Rattle.rules.specs.Took.{Reach, unreached, reaches, outOfSlice, reac
 use Rattle.rules.proofs.Effects.{present, holder-is, creates, sets-mask, blocks, wakes-holder, consumes, clears, terminates, yields, slice-ends}
 use Rattle.rules.proofs.Invariant.{Invariant, used-in-table, never-full}
 use Rattle.rules.proofs.Moves.{Harmless, stay, then, to-tail, time}
-use Rattle.rules.proofs.Ways.{Refusal, by-table, by-full-queue, by-lost-holder, Deed, by-create, by-affinity, by-terminate, by-block, by-wake, by-queueing, Timed, at-once, later, Approach, straight, clearing, slice-over, yielding, Way, refuses, tells, does, keeps, comes, way}
+use Rattle.rules.proofs.Ways.{Refusal, by-table, by-full-queue, by-free-holder, Deed, by-create, by-affinity, by-terminate, by-block, by-wake}
+use Rattle.rules.proofs.Ways.{by-queueing, Timed, at-once, later, Approach, straight, clearing, slice-over, yielding, Way, refuses, tells, does, keeps}
+use Rattle.rules.proofs.Ways.{comes, way}
 
 -- slots that a call neither blocks nor terminates nor sets the mask of
 abbrev pub Untouched : Call → ℕ → Type 0
@@ -54,7 +56,7 @@ module _ (s : State) (k : Invariant s) where
   refused-course (by-table other) = quiet refl (stay s k)
   refused-course (by-full-queue i here idle none-left) =
       absurd (true≢false (sym none-left ∙ never-full s k (task s i .qos) i (present s i here .0) idle))
-  refused-course (by-lost-holder c h is lost) =
+  refused-course (by-free-holder c h is lost) =
       let used : task s (h .0) .«in_use» ≡ true = holder-is s k c h is .used in
       absurd (true≢false (sym lost ∙ rw (lt-leb 64 (h .0) (used-in-table s (k .slots) (h .0) used)) (rw used refl)))
 
@@ -62,8 +64,8 @@ module _ (s : State) (k : Invariant s) where
   deed-harmless (by-create tid band context cr3 rsp0 low) = creates s k tid band context cr3 rsp0 low
   deed-harmless (by-affinity i mask low) = sets-mask s k (i .0) mask low (apart (i .0))
   deed-harmless (by-terminate i low) = terminates s k (i .0) low (apart (i .0))
-  deed-harmless (by-block i here) = blocks s k (i .0) (present s (i .0) here .0) (present s (i .0) here .1) (apart (i .0))
-  deed-harmless (by-wake i here was) = wakes-holder s k (i .0) (present s (i .0) here .0) (present s (i .0) here .1) was
+  deed-harmless (by-block i here awake) = blocks s k (i .0) (present s (i .0) here .0) (present s (i .0) here .1) (apart (i .0))
+  deed-harmless (by-wake i here was held) = wakes-holder s k (i .0) (present s (i .0) here .0) (present s (i .0) here .1) was
   deed-harmless (by-queueing i named here idle) = to-tail s k i (present s i here .1) idle
 
   module _ {safe : ℕ → Type 0} where
@@ -74,9 +76,9 @@ module _ (s : State) (k : Invariant s) where
     -- what is done before P is harmless, and is what Took says
     approach-harmless : {call : Call} {c : ℕ} {t u : State} → c < 64 → Approach s call c t u → Harmless safe s u × (t ≡ u)
     approach-harmless low (straight gone) = (timed-harmless gone, refl)
-    approach-harmless {c = c} low (clearing {u} gone) =
+    approach-harmless {c = c} low (clearing {u} gone h is blocked) =
         let g : Harmless safe s u = timed-harmless gone in (then s u (cleared c u) g (clears u (g .invariant) c low), refl)
-    approach-harmless low (slice-over elapsed h is named) =
+    approach-harmless low (slice-over elapsed h is named awake ended) =
         let u : State = gain elapsed s in
         let g : Harmless safe s u = timed-harmless (later elapsed) in
         let ends : Harmless safe u (outOfSlice (h .0) u) × (requeued (h .0) u ≡ outOfSlice (h .0) u) =
@@ -101,7 +103,7 @@ module _ (s : State) (k : Invariant s) where
   course-of (refuses e why) = refused-course why
   course-of (tells v of) = quiet refl (stay s k)
   course-of (does v t deed) = quiet refl (deed-harmless deed)
-  course-of (keeps how c elapsed h is named on) = quiet refl (kept-harmless c elapsed h is on)
+  course-of (keeps how c elapsed h low is named awake on) = quiet refl (kept-harmless c elapsed h is on)
   course-of {call} (comes how previous c t u low on-it is by) =
       let so : Harmless (Untouched call) s u × (t ≡ u) = approach-harmless low by in
       reaching u c low on-it (so .0) (ap (λ (v : State). ruleP c v .pick) (so .1)) (ap (λ (v : State). ruleP c v .state) (so .1))

@@ -71,6 +71,13 @@ switches-is h elapsed c s = ap (λ (b : Bool). leb (task s h .«slice_budget_us�
 
 -- ---- facts about the state that a call finds
 
+-- a core's holder, where there is one
+pub held-slot : (s : State) (c : ℕ) (h : Slot) → holderOf s c ≡ slot.Some h → (holder s c ≡ h .0) × (eqb (holder s c) noneByte ≡ false)
+held-slot s c h =
+    split (λ (b : Bool). cond b slot.None (slot.Some (record { 0 = holder s c })) ≡ slot.Some h → (holder s c ≡ h .0) × (b ≡ false)) (eqb (holder s c) noneByte)
+    (λ _ e. let no : _≡_ {A = ℕ} 0 1 = cc in absurd (omega arith))
+    (λ _ e. let same : _≡_ {A = Slot} (record { 0 = holder s c }) h = cc in (ap (λ (j : Slot). j .0) same, refl))
+
 module _ (s : State) (k : Invariant s) where
   free-is : freeSlot s < 64 → task s (freeSlot s) .«in_use» ≡ false
   free-is low =
@@ -94,11 +101,7 @@ module _ (s : State) (k : Invariant s) where
   not-none c (inr m) some = m
 
   pub holder-is : (c : ℕ) (h : Slot) → holderOf s c ≡ slot.Some h → MayHold (task s (h .0))
-  holder-is c h =
-      split (λ (b : Bool). cond b slot.None (slot.Some (record { 0 = holder s c })) ≡ slot.Some h → MayHold (task s (h .0))) (eqb (holder s c) noneByte)
-      (λ _ e. let no : _≡_ {A = ℕ} 0 1 = cc in absurd (omega arith))
-      (λ some e. let same : _≡_ {A = Slot} (record { 0 = holder s c }) h = cc in
-      subst (λ (j : Slot). MayHold (task s (j .0))) same (not-none c (k .held c) some))
+  holder-is c h is = subst (λ (j : ℕ). MayHold (task s j)) (held-slot s c h is .0) (not-none c (k .held c) (held-slot s c h is .1))
 
   -- an enqueue of a slot in use that is not Ready is not refused
   pub enqueue-done : (i : ℕ) → i < 64 → task s i .«in_use» ≡ true → isState (task s i .state) Ready ≡ false →

@@ -8,7 +8,7 @@
 --   OutOfTable  slots and cores of 64 and above, in queries
 --   Elsewhere   which records a call leaves as they were
 --
--- What these, and laws about all calls in the crates above, go by cases on: Ways, the ways out of a call, with what holds on each.
+-- What laws about all calls go by cases on, here and in the crates above: Ways, the ways out of a call, with what is known on each.
 --
 -- What any crate may use: Says pairs each test with the fact that it tests, Invariant is acceptance as proofs carry it, Moves are the changes that
 -- calls are made of, and Effects what each call does.

@@ -16,7 +16,7 @@ use Rattle.rules.specs.Step.{step}
 use Rattle.rules.specs.Took.{Reach}
 use Rattle.rules.proofs.Calls.{room-in-queue}
 use Rattle.rules.proofs.Effects.{present}
-use Rattle.rules.proofs.Ways.{Refusal, by-table, by-full-queue, by-lost-holder, Way, refuses, tells, does, keeps, comes, way}
+use Rattle.rules.proofs.Ways.{Refusal, by-table, by-full-queue, by-free-holder, Way, refuses, tells, does, keeps, comes, way}
 
 -- what is done is not refused
 not-done : {A : Type 0} {e : SchedError} → Done ≡ Refused e → A
@@ -28,7 +28,7 @@ refused-way : {s : State} {call : Call} {o : Outcome} {r : Reach} → Way s call
 refused-way {s} {r = r} (refuses f why) e is = let same : f ≡ e = cc in subst (λ (g : SchedError). (refused f s ≡ refused g s) × Refusal s g r) same (refl, why)
 refused-way (tells v of) e is = not-done is
 refused-way (does v t deed) e is = not-done is
-refused-way (keeps how c elapsed h held named on) e is = not-done is
+refused-way (keeps how c elapsed h low held named awake on) e is = not-done is
 refused-way (comes how previous c t u low on-it held by) e is = not-done is
 
 -- "A refusal changes no state", makes no pick and has no value
@@ -42,4 +42,4 @@ never-2 call s a is = by-refusal (refused-way (way call s) QueueFull is .1) refl
     by-refusal : {e : SchedError} {r : Reach} → Refusal s e r → errorCode e ≡ 2 → ⊥
     by-refusal (by-table other) two = other two
     by-refusal (by-full-queue i here idle none-left) two = true≢false (sym none-left ∙ room-in-queue s a (task s i .qos) i (present s i here .0) idle)
-    by-refusal (by-lost-holder c h held lost) two = omega arith
+    by-refusal (by-free-holder c h held lost) two = omega arith

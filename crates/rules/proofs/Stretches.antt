@@ -120,6 +120,12 @@ unfolding events
 events-calls [] s = refl
 events-calls (call ∷ calls) s = ap (λ (l : List Call). call ∷ l) (events-calls calls (step call s .state))
 
+-- lists of calls append, and so do their events
+pub run-append : (past next : List Call) (s : State) → run (past ++ next) s ≡ run next (run past s)
+unfolding run
+run-append [] next s = refl
+run-append (call ∷ past) next s = run-append past next (step call s .state)
+
 -- each event has the state that the calls before it left
 pub events-append : (past next : List Call) (s : State) → events (past ++ next) s ≡ events past s ++ events next (run past s)
 unfolding events run

@@ -1,12 +1,13 @@
--- The ways out of a call: every rule is followed here, once, and every call takes one of the ways (`way`), with what holds there. What is said of all
--- calls goes by cases on them: Course, Refusals, Elsewhere, and the laws of frames about numbers that fit. Nothing is presumed of the state, so two ways are
--- here that no accepted state has: a full queue, and a holder that is not in use. Assumes nothing.
-use mathlib.Core.Path.{_≡_, refl, sym, ap, _∙_}
+-- The ways out of a call: each call's rule is followed here, once, and so is P; every call takes one of the ways (`way`), with what is known of it there.
+-- What is said of all calls goes by cases on them: Course, Refusals, Elsewhere, and the laws of frames about numbers that fit. A way may stand for more
+-- outcomes than its call has; that the outcome is the rule's is `way`'s own statement. Nothing is presumed of the state, so two ways are here that no
+-- accepted state has: a full queue, and a holder that is not in use. Assumes nothing.
+use mathlib.Core.Path.{_≡_, refl, sym, ap, subst, _∙_}
 use mathlib.Core.Bool.{Bool, true, false, cond, not, true≢false}
 use Prim.Native.Nat.{ℕ, _<_}
 use native.Mathlib.Omega.{arith}
 use borrow.Author.Tests.{leb-false, not-false}
-use lib.Dec.{leb, eqb}
+use lib.Dec.{leb}
 use Rattle.records.specs.declared.band.QoSClass.{QoSClass}
 use Rattle.records.specs.declared.error.SchedError.{SchedError}
 use Rattle.records.specs.declared.error.SchedError.the-variants.{TableFull, QueueFull, NoSuchTask, AlreadyReady, AlreadyBlocked, NotBlocked}
@@ -19,26 +20,30 @@ use Rattle.records.specs.declared.state.ThreadState.the-variants.{Ready, Runnin
 use Rattle.records.specs.Error.{errorCode}
 use Rattle.records.specs.Lists.{firstPlace}
 use Rattle.records.specs.Mask.{storedMask}
-use Rattle.records.specs.Task.{created, withState, withMask, blocked}
+use Rattle.records.specs.Task.{created, withState, withMask, withConsumed, blocked}
 use Rattle.records.specs.ThreadState.{isState}
 use Rattle.records.proofs.Cases.{split, by-if}
 use Rattle.queue.specs.Entries.{full}
+use Rattle.rules.specs.declared.answer.Pick.{Pick}
+use Rattle.rules.specs.declared.answer.PickOption.{PickOption}
+use Rattle.rules.specs.declared.answer.PickOption.the-variants as pick
 use Rattle.rules.specs.declared.answer.PlanOption.the-variants as plan
 use Rattle.rules.specs.declared.answer.Value.{Value}
 use Rattle.rules.specs.declared.answer.Value.the-variants as value
 use Rattle.rules.specs.declared.call.Call.{Call}
 use Rattle.rules.specs.declared.call.Call.the-variants.{Create, Affinity, Terminate, Block, Wake, Enqueue, Schedule, Tick, Yield, Handoff, Plan, CanRunOnCore, TaskIndexForTid, Task, CurrentTaskOnCpu, SystemTicksUs, Holder}
 use Rattle.rules.specs.Outcome.{Outcome, Chosen, done, refused, andThen, chosenAs}
-use Rattle.rules.specs.Picking.{noChoice, ruleP, answerSlot, schedule}
+use Rattle.rules.specs.Picking.{choice, afterPick, noChoice, ruleP, answerSlot, schedule}
 use Rattle.rules.specs.Queries.{canRunOnCore, slotBelow, hasTid, taskIndexForTid, taskAt, currentTaskOnCpu, coreOf}
-use Rattle.rules.specs.State.{State, noneByte, task, queue, holder, holderOf, withTask}
+use Rattle.rules.specs.State.{State, bandOrder, task, queue, holder, holderOf, withTask}
 use Rattle.rules.specs.Step.{step}
 use Rattle.rules.specs.Stretch.{names, concern}
 use Rattle.rules.specs.Ticking.{gain, cleared, sliceOver, requeued, staysHolder, tickHolder, ticked, tick, planOf, answerPlan, yieldRunning, yieldHolder, yield, handoffIn, handoffHolder, handoff, planned}
 use Rattle.rules.specs.Took.{Reach, unreached, reaches, outOfSlice, tickReach, yieldReach, handoffReach, reach}
 use Rattle.rules.specs.Touched.{namedSlot}
 use Rattle.rules.specs.Waking.{freeSlot, create, affinity, outOfQueues, afterTerminate, terminate, missing, block, enqueued, enqueue, isHeld, wake}
-use Rattle.rules.proofs.Effects.{switches-is, idle-in}
+use Rattle.rules.proofs.Effects.{switches-is, idle-in, held-slot}
+use Rattle.rules.proofs.Picks.{P-below}
 
 -- ---- how a call ends
 
@@ -51,8 +56,8 @@ abbrev pub tellingOf : Telling → SlotOption → Chosen → Value
 tellingOf bySlot previous c = value.Slot (c .next)
 tellingOf byPlan previous c = value.Plan (planOf previous (c .next) (c .state))
 
-abbrev pub told : Telling → SlotOption → Chosen → Outcome
-told how previous c = chosenAs (tellingOf how previous c) c
+abbrev pub toldAs : Telling → SlotOption → Chosen → Outcome
+toldAs how previous c = chosenAs (tellingOf how previous c) c
 
 -- refused with this number
 pub data Refusal (s : State) : SchedError → Reach → Type 0 where
@@ -61,8 +66,8 @@ pub data Refusal (s : State) : SchedError → Reach → Type 0 where
   -- 2: a slot to be queued, and its queue is full
   by-full-queue : {r : Reach} (i : ℕ) → missing s i ≡ false → isState (task s i .state) Ready ≡ false → full (queue s (task s i .qos)) ≡ true →
       Refusal s QueueFull r
-  -- a holder that is not in use
-  by-lost-holder : {r : Reach} (c : ℕ) (h : Slot) → holderOf s c ≡ slot.Some h → missing s (h .0) ≡ true → Refusal s NoSuchTask r
+  -- 3: a holder that is not in use
+  by-free-holder : {r : Reach} (c : ℕ) (h : Slot) → holderOf s c ≡ slot.Some h → missing s (h .0) ≡ true → Refusal s NoSuchTask r
 
 -- a value that tells of the state, or of nothing
 pub data Tells (s : State) : Value → Type 0 where
@@ -83,8 +88,10 @@ pub data Deed (s : State) : Call → Value → State → Type 0 where
   by-affinity : (i : Slot) (mask : ℕ) → i .0 < 64 →
       Deed s (Affinity i mask) value.Nothing (withTask s (i .0) (withMask (task s (i .0)) (storedMask mask)))
   by-terminate : (i : Slot) → i .0 < 64 → Deed s (Terminate i) value.Nothing (afterTerminate (i .0) s)
-  by-block : (i : Slot) → missing s (i .0) ≡ false → Deed s (Block i) value.Nothing (withTask (outOfQueues (i .0) s) (i .0) (blocked (task s (i .0))))
-  by-wake : (i : Slot) → missing s (i .0) ≡ false → isState (task s (i .0) .state) Blocked ≡ true →
+  by-block : (i : Slot) → missing s (i .0) ≡ false → isState (task s (i .0) .state) Blocked ≡ false →
+      Deed s (Block i) value.Nothing (withTask (outOfQueues (i .0) s) (i .0) (blocked (task s (i .0))))
+  -- a wake of a slot that some core holds
+  by-wake : (i : Slot) → missing s (i .0) ≡ false → isState (task s (i .0) .state) Blocked ≡ true → isHeld s (i .0) ≡ true →
       Deed s (Wake i) value.Nothing (withTask s (i .0) (withState (task s (i .0)) Running))
   -- an enqueue, and a wake of a slot that no core holds
   by-queueing : {call : Call} (i : ℕ) → namedSlot call s ≡ i → missing s i ≡ false → isState (task s i .state) Ready ≡ false →
@@ -100,9 +107,11 @@ pub data Approach (s : State) (call : Call) (c : ℕ) : State → State → Type
   -- nothing: a schedule, or a core without a holder
   straight : {u : State} → Timed s u → Approach s call c u u
   -- a Blocked holder is cleared
-  clearing : {u : State} → Timed s u → Approach s call c (cleared c u) (cleared c u)
-  -- the holder's slice is over
-  slice-over : (elapsed : ℕ) (h : Slot) → holderOf s c ≡ slot.Some h → namedSlot call s ≡ h .0 →
+  clearing : {u : State} → Timed s u → (h : Slot) → holderOf s c ≡ slot.Some h → isState (task s (h .0) .state) Blocked ≡ true →
+      Approach s call c (cleared c u) (cleared c u)
+  -- the slice of a holder that is not Blocked is over
+  slice-over : (elapsed : ℕ) (h : Slot) → holderOf s c ≡ slot.Some h → namedSlot call s ≡ h .0 → isState (task s (h .0) .state) Blocked ≡ false →
+      sliceOver (h .0) elapsed c (gain elapsed s) ≡ true →
       Approach s call c (requeued (h .0) (gain elapsed s)) (outOfSlice (h .0) (gain elapsed s))
   -- a Running holder yields
   yielding : (h : Slot) → holderOf s c ≡ slot.Some h → namedSlot call s ≡ h .0 → isState (task s (h .0) .state) Ready ≡ false →
@@ -115,12 +124,40 @@ pub data Way (s : State) : Call → Outcome → Reach → Type 0 where
   tells : {call : Call} (v : Value) → Tells s v → Way s call (done v s) unreached
   -- something is done to a slot
   does : {call : Call} (v : Value) (t : State) → Deed s call v t → Way s call (done v t) unreached
-  -- a tick's holder is charged, and stays
-  keeps : {call : Call} (how : Telling) (c elapsed : ℕ) (h : Slot) → holderOf s c ≡ slot.Some h → namedSlot call s ≡ h .0 →
-      sliceOver (h .0) elapsed c (gain elapsed s) ≡ false → Way s call (told how (slot.Some h) (staysHolder h elapsed (gain elapsed s))) unreached
+  -- a tick's holder, which is not Blocked, is charged, and stays
+  keeps : {call : Call} (how : Telling) (c elapsed : ℕ) (h : Slot) → c < 64 → holderOf s c ≡ slot.Some h → namedSlot call s ≡ h .0 →
+      isState (task s (h .0) .state) Blocked ≡ false → sliceOver (h .0) elapsed c (gain elapsed s) ≡ false → Way s call (toldAs how (slot.Some h) (staysHolder h elapsed (gain elapsed s))) unreached
   -- it comes to P, on the core that it names
   comes : {call : Call} (how : Telling) (previous : SlotOption) (c : ℕ) (t u : State) → c < 64 → concern call ≡ names c → holderOf s c ≡ previous →
-      Approach s call c t u → Way s call (told how previous (ruleP c t)) (reaches u c)
+      Approach s call c t u → Way s call (toldAs how previous (ruleP c t)) (reaches u c)
+
+-- ---- P, and a holder's way back to its queue
+
+-- on a core below 64 P takes somebody, or nobody
+pub data Picking (s : State) (c : ℕ) : Chosen → Type 0 where
+  picks-one : (p : Pick) → Picking s c (afterPick s c (pick.Some p))
+  picks-none : Picking s c (afterPick s c pick.None)
+
+pub P-way : (s : State) (c : ℕ) → c < 64 → Picking s c (ruleP c s)
+P-way s c low = subst (Picking s c) (sym (P-below s c low)) (by-choice (choice s c bandOrder))
+  where
+    by-choice : (o : PickOption) → Picking s c (afterPick s c o)
+    by-choice (pick.Some p) = picks-one p
+    by-choice pick.None = picks-none
+
+-- a holder whose slice is over has consumed nothing then, and is queued unless its enqueue is refused
+pub data Requeued (i : ℕ) (s : State) : State → Type 0 where
+  queued : Requeued i s (enqueued i s)
+  not-queued : Requeued i s s
+
+pub requeued-way : (i : ℕ) (s : State) → Requeued i (withTask s i (withConsumed (task s i) 0)) (requeued i s)
+unfolding enqueue
+requeued-way i s =
+    let t : State = withTask s i (withConsumed (task s i) 0) in
+    let Ends : Outcome → Type 0 = λ (o : Outcome). Requeued i t (o .state) in
+    by-if Ends (missing t i) (λ _. not-queued) (λ _.
+    by-if Ends (isState (task t i .state) Ready) (λ _. not-queued) (λ _.
+    by-if Ends (full (queue t (task t i .qos))) (λ _. not-queued) (λ _. queued)))
 
 -- ---- calls on slots
 
@@ -162,7 +199,7 @@ module _ (s : State) where
   unfolding block
   block-way i =
       by-if (Quiet s (Block i)) (missing s (i .0)) (λ _. no-task s) (λ here.
-      by-if (Quiet s (Block i)) (isState (task s (i .0) .state) Blocked) (λ _. refuse s AlreadyBlocked (λ n. omega arith)) (λ _. does _ _ (by-block i here)))
+      by-if (Quiet s (Block i)) (isState (task s (i .0) .state) Blocked) (λ _. refuse s AlreadyBlocked (λ n. omega arith)) (λ awake. does _ _ (by-block i here awake)))
 
   wake-way : (i : Slot) → Quiet s (Wake i) (wake (i .0) s)
   unfolding wake
@@ -170,24 +207,17 @@ module _ (s : State) where
       let is-blocked : Bool = isState (task s (i .0) .state) Blocked in
       by-if (Quiet s (Wake i)) (missing s (i .0)) (λ _. no-task s) (λ here.
       by-if (Quiet s (Wake i)) (not is-blocked) (λ _. refuse s NotBlocked (λ n. omega arith)) (λ was.
-      by-if (Quiet s (Wake i)) (isHeld s (i .0)) (λ _. does _ _ (by-wake i here (not-false is-blocked was))) (λ _. enqueue-way s (i .0) refl)))
+      by-if (Quiet s (Wake i)) (isHeld s (i .0)) (λ held. does _ _ (by-wake i here (not-false is-blocked was) held)) (λ _. enqueue-way s (i .0) refl)))
 
 -- ---- calls on cores below 64
-
--- a core's holder, where there is one
-pub held-slot : (s : State) (c : ℕ) (h : Slot) → holderOf s c ≡ slot.Some h → holder s c ≡ h .0
-held-slot s c h =
-    split (λ (b : Bool). cond b slot.None (slot.Some (record { 0 = holder s c })) ≡ slot.Some h → holder s c ≡ h .0) (eqb (holder s c) noneByte)
-    (λ _ e. let no : _≡_ {A = ℕ} 0 1 = cc in absurd (omega arith))
-    (λ _ e. let same : _≡_ {A = Slot} (record { 0 = holder s c }) h = cc in ap (λ (j : Slot). j .0) same)
 
 module _ (s : State) (call : Call) (c : ℕ) (low : c < 64) (on-it : concern call ≡ names c) (of-holder : namedSlot call s ≡ holder s c) where
   -- the slot that the call is about
   named : (h : Slot) → holderOf s c ≡ slot.Some h → namedSlot call s ≡ h .0
-  named h is = of-holder ∙ held-slot s c h is
+  named h is = of-holder ∙ held-slot s c h is .0
 
   tick-way : (how : Telling) (elapsed : ℕ) (h : SlotOption) → holderOf s c ≡ h →
-      Way s call (told how h (tickHolder h c elapsed (gain elapsed s))) (tickReach h c elapsed (gain elapsed s))
+      Way s call (toldAs how h (tickHolder h c elapsed (gain elapsed s))) (tickReach h c elapsed (gain elapsed s))
   tick-way how elapsed slot.None is = comes how slot.None c _ _ low on-it is (straight (later elapsed))
   tick-way how elapsed (slot.Some h) is =
       let u : State = gain elapsed s in
@@ -195,12 +225,12 @@ module _ (s : State) (call : Call) (c : ℕ) (low : c < 64) (on-it : concern cal
       let OverReach : Bool → Reach = λ (b : Bool). cond b (reaches (outOfSlice (h .0) u) c) unreached in
       let over : Bool = sliceOver (h .0) elapsed c u in
       rw (switches-is (h .0) elapsed c u) (
-      split (λ (b : Bool). Way s call (told how (slot.Some h) (cond b (ruleP c (cleared c u)) (Over over))) (cond b (reaches (cleared c u) c) (OverReach over)))
+      split (λ (b : Bool). Way s call (toldAs how (slot.Some h) (cond b (ruleP c (cleared c u)) (Over over))) (cond b (reaches (cleared c u) c) (OverReach over)))
       (isState (task u (h .0) .state) Blocked)
-      (λ _. comes how (slot.Some h) c _ _ low on-it is (clearing (later elapsed)))
-      (λ _. split (λ (b : Bool). Way s call (told how (slot.Some h) (Over b)) (OverReach b)) over
-      (λ _. comes how (slot.Some h) c _ _ low on-it is (slice-over elapsed h is (named h is)))
-      (λ on. keeps how c elapsed h is (named h is) on)))
+      (λ blocked. comes how (slot.Some h) c _ _ low on-it is (clearing (later elapsed) h is blocked))
+      (λ awake. split (λ (b : Bool). Way s call (toldAs how (slot.Some h) (Over b)) (OverReach b)) over
+      (λ ended. comes how (slot.Some h) c _ _ low on-it is (slice-over elapsed h is (named h is) awake ended))
+      (λ on. keeps how c elapsed h low is (named h is) awake on)))
 
   yield-way : (h : SlotOption) → holderOf s c ≡ h → Way s call (yieldHolder h c s) (yieldReach h c s)
   unfolding enqueue
@@ -211,7 +241,7 @@ module _ (s : State) (call : Call) (c : ℕ) (low : c < 64) (on-it : concern cal
       split (λ (b : Bool). Way s call (cond (not b) (refused NoSuchTask s) (yieldRunning h c s)) (cond b away unreached))
       (isState (task s (h .0) .state) Running)
       (λ runs.
-      by-if Ends (missing s (h .0)) (λ lost. refuses NoSuchTask (by-lost-holder c h is lost)) (λ here.
+      by-if Ends (missing s (h .0)) (λ lost. refuses NoSuchTask (by-free-holder c h is lost)) (λ here.
       by-if Ends (isState (task s (h .0) .state) Ready) (λ ready. absurd (true≢false (sym ready ∙ idle-in (task s (h .0)) Running runs refl))) (λ idle.
       by-if Ends (full (queue s (task s (h .0) .qos))) (λ none-left. refuses QueueFull (by-full-queue (h .0) here idle none-left)) (λ _.
       comes byPlan (slot.Some h) c _ _ low on-it is (yielding h is (named h is) idle)))))
@@ -219,13 +249,14 @@ module _ (s : State) (call : Call) (c : ℕ) (low : c < 64) (on-it : concern cal
 
   handoff-way : (h : SlotOption) → holderOf s c ≡ h → Way s call (handoffHolder h c s) (handoffReach h c s)
   handoff-way slot.None is = no-task s
-  handoff-way (slot.Some h) is = by-state (task s (h .0) .state)
+  handoff-way (slot.Some h) is = by-state (task s (h .0) .state) refl
     where
-      by-state : (st : ThreadState) → Way s call (handoffIn st h c s) (cond (isState st Blocked) (reaches (cleared c s) c) unreached)
-      by-state Ready = refuse s NotBlocked (λ n. omega arith)
-      by-state Running = tells _ no-plan
-      by-state Blocked = comes byPlan (slot.Some h) c _ _ low on-it is (clearing at-once)
-      by-state Terminated = no-task s
+      by-state : (st : ThreadState) → task s (h .0) .state ≡ st →
+          Way s call (handoffIn st h c s) (cond (isState st Blocked) (reaches (cleared c s) c) unreached)
+      by-state Ready e = refuse s NotBlocked (λ n. omega arith)
+      by-state Running e = tells _ no-plan
+      by-state Blocked e = comes byPlan (slot.Some h) c _ _ low on-it is (clearing at-once h is (ap (λ (st : ThreadState). isState st Blocked) e))
+      by-state Terminated e = no-task s
 
 -- ---- every call
 

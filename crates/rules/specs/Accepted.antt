@@ -19,6 +19,14 @@ use Rattle.rules.specs.State.{State, noneByte, bandOrder, task, queue, h
 abbrev pub standings : State → ℕ → ℕ
 standings s slot = count slot (queue s UserInteractive) + (count slot (queue s RealTimeIO) + count slot (queue s Background))
 
+-- a Ready slot of that band, as a test
+abbrev pub readyOf : QoSClass → TaskControlBlock → Bool
+readyOf band t = isState (t .state) Ready && eqb (bandCode (t .qos)) (bandCode band)
+
+-- how often a slot stands in a band's queue, by its record: once where it is Ready and of that band, else not at all
+abbrev pub due : QoSClass → TaskControlBlock → ℕ
+due band t = cond (readyOf band t) 1 0
+
 -- ---- the conditions
 
 -- "a Ready slot of that band"
@@ -61,13 +69,6 @@ recordFits t =
     not (eqb (t .«cpu_affinity») 0) &&
     (eqb (t .«slice_budget_us») 0 || eqb (t .«slice_budget_us») (slice (t .qos))) &&
     ltb (t .«consumed_slice_us») (slice (t .qos))
-
-abbrev pub readyOf : QoSClass → TaskControlBlock → Bool
-readyOf band t = isState (t .state) Ready && eqb (bandCode (t .qos)) (bandCode band)
-
--- how often a slot stands in a band's queue, by its record: once where it is Ready and of that band, else not at all
-abbrev pub due : QoSClass → TaskControlBlock → ℕ
-due band t = cond (readyOf band t) 1 0
 
 abbrev pub queueFits : State → QoSClass → Bool
 queueFits s band = leb (length (queue s band)) 64 && every (λ slot. readyOf band (task s slot)) (queue s band)

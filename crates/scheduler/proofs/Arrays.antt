@@ -14,7 +14,7 @@ use Rattle.queue.specs.declared.BandQueue.{BandQueue}
 use Rattle.queue.specs.Stored.{entries, WellFormed, Holds}
 use Rattle.scheduler.specs.declared.scheduler.QoSScheduler.{QoSScheduler}
 use Rattle.rules.specs.State.{Queues, task, ofBand, withBand, queue, holder}
-use Rattle.scheduler.specs.Scheduler.{queuesOf, abs, Whole, Valid, HoldQueues}
+use Rattle.scheduler.specs.Scheduler.{queuesOf, abs, Whole, Valid, HoldsQueues}
 
 -- ---- reading
 
@@ -58,7 +58,7 @@ band-at (suc (suc zero)) low = (Background, refl)
 band-at (suc (suc (suc n))) low = absurd (omega arith)
 
 -- a queue for each band
-pub three-hold : {q : Queues} {a b c : BandQueue} → Holds a (q .interactive) → Holds b (q .realTime) → Holds c (q .background) → HoldQueues (a ∷ b ∷ c ∷ []) q
+pub three-hold : {q : Queues} {a b c : BandQueue} → Holds a (q .interactive) → Holds b (q .realTime) → Holds c (q .background) → HoldsQueues (a ∷ b ∷ c ∷ []) q
 unfolding queuesOf Each
 three-hold a b c = record {
   whole = record { bands = refl; rings = (a .well-formed, (b .well-formed, (c .well-formed, tt))) };
@@ -84,17 +84,17 @@ module _ (qs : List BandQueue) (w : Whole qs) (b : QoSClass) where
       by-band x y z RealTimeIO = refl
       by-band x y z Background = refl
 
-  put-queue : (q : BandQueue) (es : List ℕ) → Holds q es → HoldQueues (set qs (bandCode b) q) (withBand (queuesOf qs) b es)
+  put-queue : (q : BandQueue) (es : List ℕ) → Holds q es → HoldsQueues (set qs (bandCode b) q) (withBand (queuesOf qs) b es)
   unfolding queuesOf Each
   put-queue q es h =
-      three (λ (l : List BandQueue). Each WellFormed l → HoldQueues (set l (bandCode b) q) (withBand (queuesOf l) b es)) (λ x y z. by-band x y z b)
+      three (λ (l : List BandQueue). Each WellFormed l → HoldsQueues (set l (bandCode b) q) (withBand (queuesOf l) b es)) (λ x y z. by-band x y z b)
       qs (w .bands) (w .rings)
     where
       as-it-is : {x : BandQueue} → WellFormed x → Holds x (entries x)
       as-it-is w = record { well-formed = w; entries-are = refl }
 
       by-band : (x y z : BandQueue) (b : QoSClass) → Each WellFormed (x ∷ y ∷ z ∷ []) →
-          HoldQueues (set (x ∷ y ∷ z ∷ []) (bandCode b) q) (withBand (queuesOf (x ∷ y ∷ z ∷ [])) b es)
+          HoldsQueues (set (x ∷ y ∷ z ∷ []) (bandCode b) q) (withBand (queuesOf (x ∷ y ∷ z ∷ [])) b es)
       by-band x y z UserInteractive r = three-hold h (as-it-is (r .1 .0)) (as-it-is (r .1 .1 .0))
       by-band x y z RealTimeIO r = three-hold (as-it-is (r .0)) h (as-it-is (r .1 .1 .0))
       by-band x y z Background r = three-hold (as-it-is (r .0)) (as-it-is (r .1 .0)) h
@@ -107,12 +107,12 @@ module _ (qs : List BandQueue) (w : Whole qs) (b : QoSClass) {n : ℕ} (is : n �
   pub entries-at : (d : BandQueue) → entries (getD qs n d) ≡ ofBand (queuesOf qs) b
   entries-at d = ap (λ (k : ℕ). entries (getD qs k d)) is ∙ entries-of qs w b d
 
-  pub queue-put : {q : BandQueue} {es : List ℕ} → Holds q es → HoldQueues (set qs n q) (withBand (queuesOf qs) b es)
-  queue-put {q} {es} h = subst (λ (k : ℕ). HoldQueues (set qs k q) (withBand (queuesOf qs) b es)) (sym is) (put-queue qs w b q es h)
+  pub queue-put : {q : BandQueue} {es : List ℕ} → Holds q es → HoldsQueues (set qs n q) (withBand (queuesOf qs) b es)
+  queue-put {q} {es} h = subst (λ (k : ℕ). HoldsQueues (set qs k q) (withBand (queuesOf qs) b es)) (sym is) (put-queue qs w b q es h)
 
   -- changed by f
   pub queue-changed : (d : BandQueue) (f : List ℕ → List ℕ) {q : BandQueue} → Holds q (f (entries (getD qs n d))) →
-      HoldQueues (set qs n q) (withBand (queuesOf qs) b (f (ofBand (queuesOf qs) b)))
+      HoldsQueues (set qs n q) (withBand (queuesOf qs) b (f (ofBand (queuesOf qs) b)))
   queue-changed d f {q} h = queue-put (subst (λ (l : List ℕ). Holds q (f l)) (entries-at d) h)
 
 -- at any place among the three

@@ -13,7 +13,7 @@ use Rattle.rules.proofs.Effects.{holder-is, clears}
 use Rattle.rules.proofs.Invariant.{Invariant, accepted-invariant, invariant-accepted, used-in-table}
 use Rattle.rules.proofs.Moves.{Harmless}
 use Rattle.scheduler.proofs.Arrays.{holder-at}
-use Rattle.scheduler.proofs.Puts.{putHolder, as-found, holds-valid, put-holder}
+use Rattle.scheduler.proofs.Builders.{putHolder, as-found, holds-valid, put-holder}
 
 -- what a change that harms nobody leaves is accepted
 pub harmless-accepted : {s t : State} → Harmless (λ (x : ℕ). ⊥) s t → Accepted t

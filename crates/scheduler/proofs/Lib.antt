@@ -1,4 +1,4 @@
--- What any crate may use: Arrays reads the scheduler's arrays as the state that they hold; Puts makes a scheduler of a state, or of another with a
+-- What any crate may use: Arrays reads the scheduler's arrays as the state that they hold; Builders makes a scheduler of a state, or of another with a
 -- part replaced, and says what it holds; for a caller that lends a state from a local, which has to be walked by hand, Lending is one such call,
 -- Loans are block and tick as it meets them, and MachineValues has the facts about machine values that these use.
 --
@@ -10,7 +10,7 @@ pub mod MachineValues
 pub mod Lending
 pub mod Loans
 pub mod Arrays
-pub mod Puts
+pub mod Builders
 mod Searches
 mod Seeking
 mod Removals

@@ -41,7 +41,7 @@ use Rattle.scheduler.proofs.Promises.{meets-told, meets-given, gives-ch
 use Rattle.scheduler.proofs.Seeking.{Seeking, seeking-band, seeking-place, found-place, found-first, before, chosen, none-chosen}
 use Rattle.scheduler.proofs.Seeking.{waits-found, waits-none}
 use Rattle.scheduler.proofs.Arrays.{record-at, band-at, queue-at}
-use Rattle.scheduler.proofs.Puts.{putTask, putQueue, putHolder, HoldsState, as-found, put-task, put-queue, put-holder}
+use Rattle.scheduler.proofs.Builders.{putTask, putQueue, putHolder, HoldsState, as-found, put-task, put-queue, put-holder}
 
 -- P is what schedule does
 P-accepted : {s : State} (core : ℕ) → Accepted s → Accepted (ruleP core s .state)

@@ -32,7 +32,7 @@ use Rattle.rules.proofs.Effects.{enqueue-done, idle-in, yields}
 use Rattle.scheduler.proofs.Holders.{harmless-accepted, known, held, holder-may, holder-below, let-go}
 use Rattle.scheduler.proofs.Promises.{meets-told, meets-refused, meets-given}
 use Rattle.scheduler.proofs.Arrays.{record-at}
-use Rattle.scheduler.proofs.Puts.{putTask, putQueue, HoldsState, as-found, holds-valid, put-holder, put-tail}
+use Rattle.scheduler.proofs.Builders.{putTask, putQueue, HoldsState, as-found, holds-valid, put-holder, put-tail}
 
 -- ---- yield and handoff on a core of 64 and above
 

@@ -35,7 +35,7 @@ use Rattle.rules.proofs.Calls.{new-accepted}
 use Rattle.scheduler.proofs.Holders.{held, holder-below}
 use Rattle.scheduler.proofs.Searches.{search-found}
 use Rattle.scheduler.proofs.Arrays.{slots, record-at, three-hold}
-use Rattle.scheduler.proofs.Puts.{storedAs, HoldsState, stored-as, holds-valid}
+use Rattle.scheduler.proofs.Builders.{storedAs, HoldsState, stored-as, holds-valid}
 
 -- ---- the new scheduler
 

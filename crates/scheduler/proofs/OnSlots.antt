@@ -34,12 +34,12 @@ use Rattle.scheduler.specs.declared.scheduler.QoSScheduler.{QoSScheduler
 use Rattle.scheduler.specs.declared.scheduler.Reply.{Reply}
 use Rattle.rules.specs.State.{task, queue, eachQueue}
 use Rattle.rules.specs.Outcome.{answered}
-use Rattle.scheduler.specs.Scheduler.{queuesOf, abs, Valid, Meets, HoldQueues}
+use Rattle.scheduler.specs.Scheduler.{queuesOf, abs, Valid, Meets, HoldsQueues}
 use Rattle.scheduler.specs.Private.{refusedBy}
 use Rattle.rules.specs.Waking.{freeSlot, create, released, affinity, terminate, missing, block, wake, enqueue}
 use Rattle.scheduler.proofs.Promises.{meets-done, meets-refused, meets-as}
 use Rattle.scheduler.proofs.Arrays.{slots, record-at, queue-at}
-use Rattle.scheduler.proofs.Puts.{putTask, putQueue, putQueues, putHolders, as-found, put-task, put-queues, put-holders, put-tail}
+use Rattle.scheduler.proofs.Builders.{putTask, putQueue, putQueues, putHolders, as-found, put-task, put-queues, put-holders, put-tail}
 use Rattle.scheduler.proofs.Searches.{search-on, search-found}
 
 -- ---- a slot of 64 and above
@@ -80,7 +80,7 @@ module _ {s : QoSScheduler} (v : Valid s) {slot : Slot} (d : TaskControlBlock) (
   affinity-done t-is a-is = meets-done v (put-task (as-found v) (slot .0) t-is) a-is (rw (lt-leb 64 (slot .0) low) (rw (sym read-is) refl))
 
   pub terminate-done : {a : Answer} {t : TaskControlBlock} {qs : List BandQueue} {hs : List ℕ} → t ≡ terminated read →
-      HoldQueues qs (eachQueue (without (slot .0)) (queuesOf (s .queues))) → hs ≡ map (released (slot .0)) (s .current) → a ≡ answered pick.None value.Nothing →
+      HoldsQueues qs (eachQueue (without (slot .0)) (queuesOf (s .queues))) → hs ≡ map (released (slot .0)) (s .current) → a ≡ answered pick.None value.Nothing →
       Meets (Terminate slot) s (record { answer = a; state = putHolders (putQueues (putTask s (slot .0) t) qs) hs })
   unfolding terminate abs
   terminate-done t-is out hs-is a-is =
@@ -111,7 +111,7 @@ module _ {s : QoSScheduler} (v : Valid s) {slot : Slot} (d : TaskControlBlock) (
     block-again so is = meets-refused v AlreadyBlocked is (rw there (rw (sym read-is) (rw so refl)))
 
     pub block-done : {a : Answer} {t : TaskControlBlock} {qs : List BandQueue} → isState (read .state) Blocked ≡ false →
-        HoldQueues qs (eachQueue (without (slot .0)) (queuesOf (s .queues))) → t ≡ blocked read → a ≡ answered pick.None value.Nothing →
+        HoldsQueues qs (eachQueue (without (slot .0)) (queuesOf (s .queues))) → t ≡ blocked read → a ≡ answered pick.None value.Nothing →
         Meets (Block slot) s (record { answer = a; state = putTask (putQueues s qs) (slot .0) t })
     unfolding block abs
     block-done so out t-is a-is =

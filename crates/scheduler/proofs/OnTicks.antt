@@ -46,7 +46,7 @@ use Rattle.rules.proofs.Invariant.{no-holder}
 use Rattle.rules.proofs.Moves.{Harmless, time}
 use Rattle.scheduler.proofs.Promises.{meets-given, gives-chosen, gives-as}
 use Rattle.scheduler.proofs.Arrays.{record-at}
-use Rattle.scheduler.proofs.Puts.{putTask, putQueue, putMicros, HoldsState, as-found, holds-valid, put-task, put-holder, put-micros, put-tail}
+use Rattle.scheduler.proofs.Builders.{putTask, putQueue, putMicros, HoldsState, as-found, holds-valid, put-task, put-holder, put-micros, put-tail}
 
 -- ---- the end of a slice, where the record is stored once
 

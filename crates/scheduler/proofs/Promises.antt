@@ -24,7 +24,7 @@ use Rattle.rules.specs.Step.{step}
 use Rattle.scheduler.specs.Scheduler.{abs, Valid, Meets}
 use Rattle.scheduler.specs.Private.{toldBy, refusedBy, Gives, answerIn, targetWith, whoRuns}
 use Rattle.rules.proofs.Calls.{call-accepted}
-use Rattle.scheduler.proofs.Puts.{HoldsState, as-found, holds-valid}
+use Rattle.scheduler.proofs.Builders.{HoldsState, as-found, holds-valid}
 
 -- what was given is what the rules make of the call
 pub meets-given : {call : Call} {s : QoSScheduler} {o : Outcome} {r : Reply} → Gives o r → step call (abs s) ≡ o → Meets call s r

@@ -16,7 +16,7 @@ use Rattle.queue.specs.declared.BandQueue.{BandQueue}
 use Rattle.queue.specs.Stored.{entries, Holds}
 use Rattle.queue.specs.Entries.{without}
 use Rattle.rules.specs.State.{Queues, ofBand, withBand, eachQueue}
-use Rattle.scheduler.specs.Scheduler.{queuesOf, Whole, HoldQueues}
+use Rattle.scheduler.specs.Scheduler.{queuesOf, Whole, HoldsQueues}
 use Rattle.scheduler.proofs.Arrays.{band-at, queue-changed}
 
 -- ---- a list whose first k elements are mapped
@@ -67,7 +67,7 @@ module _ (slot : ℕ) where
     background = cond (ltb 2 n) (without slot (q .background)) (q .background);
   }
 
-  pub out-begin : (qs : List BandQueue) → Whole qs → HoldQueues qs (outBelow 0 (queuesOf qs))
+  pub out-begin : (qs : List BandQueue) → Whole qs → HoldsQueues qs (outBelow 0 (queuesOf qs))
   out-begin qs w = record { whole = w; entries-are = refl }
 
   out-next : (b : QoSClass) (q : Queues) →
@@ -77,29 +77,29 @@ module _ (slot : ℕ) where
   out-next Background q = refl
 
   module _ (q : Queues) {qs : List BandQueue} where
-    out-of-band : {r : BandQueue} (b : QoSClass) (d : BandQueue) → HoldQueues qs (outBelow (bandCode b) q) →
-        Holds r (without slot (entries (getD qs (bandCode b) d))) → HoldQueues (set qs (bandCode b) r) (outBelow (bandCode b + 1) q)
+    out-of-band : {r : BandQueue} (b : QoSClass) (d : BandQueue) → HoldsQueues qs (outBelow (bandCode b) q) →
+        Holds r (without slot (entries (getD qs (bandCode b) d))) → HoldsQueues (set qs (bandCode b) r) (outBelow (bandCode b + 1) q)
     out-of-band {r} b d h is =
-        let put : HoldQueues (set qs (bandCode b) r) (withBand (queuesOf qs) b (without slot (ofBand (queuesOf qs) b))) =
+        let put : HoldsQueues (set qs (bandCode b) r) (withBand (queuesOf qs) b (without slot (ofBand (queuesOf qs) b))) =
         queue-changed qs (h .whole) b refl d (without slot) is in
-        subst (HoldQueues (set qs (bandCode b) r)) (ap (λ (p : Queues). withBand p b (without slot (ofBand p b))) (h .entries-are) ∙ out-next b q) put
+        subst (HoldsQueues (set qs (bandCode b) r)) (ap (λ (p : Queues). withBand p b (without slot (ofBand p b))) (h .entries-are) ∙ out-next b q) put
 
     -- out of the queue at place n: on to the next
-    pub out-on : (n : ℕ) (d : BandQueue) {r : BandQueue} → HoldQueues qs (outBelow n q) → n < 3 → Holds r (without slot (entries (getD qs n d))) →
-        HoldQueues (set qs n r) (outBelow (n + 1) q)
+    pub out-on : (n : ℕ) (d : BandQueue) {r : BandQueue} → HoldsQueues qs (outBelow n q) → n < 3 → Holds r (without slot (entries (getD qs n d))) →
+        HoldsQueues (set qs n r) (outBelow (n + 1) q)
     out-on n d {r} h low is =
         let at : (b : QoSClass) × (n ≡ bandCode b) = band-at n low in
         subst
-        (λ (k : ℕ). HoldQueues qs (outBelow k q) → Holds r (without slot (entries (getD qs k d))) → HoldQueues (set qs k r) (outBelow (k + 1) q))
+        (λ (k : ℕ). HoldsQueues qs (outBelow k q) → Holds r (without slot (entries (getD qs k d))) → HoldsQueues (set qs k r) (outBelow (k + 1) q))
         (sym (at .1))
         (out-of-band (at .0) d)
         h
         is
 
     -- past the third: out of every queue
-    pub out-ended : (n : ℕ) → HoldQueues qs (outBelow n q) → 3 ≤ n → HoldQueues qs (eachQueue (without slot) q)
+    pub out-ended : (n : ℕ) → HoldsQueues qs (outBelow n q) → 3 ≤ n → HoldsQueues qs (eachQueue (without slot) q)
     out-ended n h past =
-        subst (HoldQueues qs)
+        subst (HoldsQueues qs)
         (λ i. record {
           interactive = cond (lt-ltb 0 n (omega arith) i) (without slot (q .interactive)) (q .interactive);
           realTime = cond (lt-ltb 1 n (omega arith) i) (without slot (q .realTime)) (q .realTime);

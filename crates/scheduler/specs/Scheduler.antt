@@ -31,7 +31,7 @@ pub record Whole (qs : List BandQueue) : Type 0 where
   pub rings : Each WellFormed qs
 
 -- a whole array of queues with these entries
-pub record HoldQueues (qs : List BandQueue) (q : Queues) : Type 0 where
+pub record HoldsQueues (qs : List BandQueue) (q : Queues) : Type 0 where
   pub whole : Whole qs
   pub entries-are : queuesOf qs ≡ q
 

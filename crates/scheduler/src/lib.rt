@@ -10,8 +10,8 @@
 //
 // Every call presumes only `Valid`: the scheduler came from `new`, an accepted image or an earlier call. It answers for all
 // arguments, and ensures `Meets`: the whole answer and the whole state are what document 01's rule for it makes, and the
-// scheduler that it gives back, or leaves behind the reference, is valid again. The rules, with `Call` and `Answer`, are the crate
-// below; both types are handed on here.
+// scheduler that it gives back, or leaves behind the reference, is valid again. The rules, with `Call` and `Answer` and
+// their parts, are the crate below; these types are handed on here.
 mod answer;
 mod lent;
 mod picking;

@@ -1,6 +1,6 @@
 // Waiting and waking: create, affinity, terminate, block, wake and enqueue.
 ghost use Rattle.queue.specs.Entries.{without};
-ghost use Rattle.scheduler.specs.Scheduler.{Valid, Meets, Whole, queuesOf, HoldQueues};
+ghost use Rattle.scheduler.specs.Scheduler.{Valid, Meets, Whole, queuesOf, HoldsQueues};
 ghost use Rattle.records.specs.Lists.{firstPlace};
 ghost use Rattle.rules.specs.State.{eachQueue};
 ghost use Rattle.rules.specs.Waking.{released};
@@ -191,7 +191,7 @@ impl QoSScheduler {
 // The queues without the slot, the rest in their order.
 fn out_of_queues(mut queues: [BandQueue; BAND_COUNT], slot: Slot) -> [BandQueue; BAND_COUNT]
     requires { ⌜ Whole queues ⌝ }
-    ensures { λ r. ⌜ HoldQueues r (eachQueue (without (slot .0)) (queuesOf queues)) ⌝ }
+    ensures { λ r. ⌜ HoldsQueues r (eachQueue (without (slot .0)) (queuesOf queues)) ⌝ }
 {
     let mut band = 0;
     while band < BAND_COUNT {

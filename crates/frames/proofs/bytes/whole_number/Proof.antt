@@ -2,7 +2,7 @@
 use Prim.Native.Nat.{_-_, _≤_}
 use native.Mathlib.Omega.{arith}
 use borrow.Author.Needs.{needs}
-use Rattle.frames.specs.Bytes.{IsNumber}
+use Rattle.frames.specs.Private.{IsNumber}
 use Rattle.frames.proofs.Numbers.{number-begin, number-on, number-ended, number-room}
 use Rattle.frames.proofs.bytes.whole_number.Statement.{statement}
 use Rattle.frames.proofs.bytes.whole_number.Tie as tie

@@ -2,7 +2,7 @@
 use mathlib.Core.Path.{refl, ap}
 use Rattle.rules.specs.declared.answer.Value.the-variants as value
 use Rattle.rules.specs.declared.answer.PlanOption.the-variants as plan
-use Rattle.frames.specs.Answer.{valueBytes}
+use Rattle.frames.specs.Private.{valueBytes}
 use Rattle.frames.proofs.Encodings.{value-as, byte-put}
 use borrow.Author.Needs.{needs}
 use Rattle.frames.proofs.encode.put_plan.Statement.{statement}

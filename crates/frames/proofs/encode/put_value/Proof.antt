@@ -1,7 +1,7 @@
 -- `put_value` meets its contract: each arm puts its kind. Assumes nothing.
 use mathlib.Core.Path.{refl}
 use Rattle.rules.specs.declared.answer.Value.the-variants as value
-use Rattle.frames.specs.Answer.{valueBytes}
+use Rattle.frames.specs.Private.{valueBytes}
 use Rattle.frames.proofs.Runs.{run-end}
 use Rattle.frames.proofs.Encodings.{value-as, value-put, byte-put}
 use borrow.Author.Needs.{needs}

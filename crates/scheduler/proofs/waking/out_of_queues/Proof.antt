@@ -2,14 +2,14 @@
 -- Assumes nothing.
 use Prim.Native.Nat.{_-_}
 use borrow.Author.Needs.{needs}
-use Rattle.scheduler.specs.Scheduler.{queuesOf, HoldQueues}
+use Rattle.scheduler.specs.Scheduler.{queuesOf, HoldsQueues}
 use Rattle.scheduler.proofs.Removals.{outBelow, out-begin, out-on, out-ended}
 use Rattle.scheduler.proofs.Arrays.{ring-below}
 use Rattle.scheduler.proofs.waking.out_of_queues.Statement.{statement}
 use Rattle.scheduler.proofs.waking.out_of_queues.Tie as tie
 
 abbrev Inv-loop : tie.InvT-loop
-Inv-loop slot queues₀ band₀ queues band = HoldQueues queues (outBelow (slot .0) band (queuesOf queues₀))
+Inv-loop slot queues₀ band₀ queues band = HoldsQueues queues (outBelow (slot .0) band (queuesOf queues₀))
 
 abbrev μ-loop : tie.MeasureT-loop
 μ-loop slot queues₀ band₀ queues band = 3 - band

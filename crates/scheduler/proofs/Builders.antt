@@ -16,7 +16,7 @@ use Rattle.queue.specs.Stored.{entries, Holds}
 use Rattle.scheduler.specs.declared.scheduler.QoSScheduler.{QoSScheduler}
 use Rattle.rules.specs.State.{State, Queues, task, queue, withTask, withQueues, withQueue, withHolders, withHolder, withMicros}
 use Rattle.rules.specs.Accepted.{Accepted}
-use Rattle.scheduler.specs.Scheduler.{abs, Whole, Valid, HoldQueues}
+use Rattle.scheduler.specs.Scheduler.{abs, Whole, Valid, HoldsQueues}
 use Rattle.scheduler.proofs.Arrays.{queue-changed}
 
 -- ---- the scheduler itself
@@ -56,7 +56,7 @@ as-found v = record { whole = v .whole; state-is = refl }
 pub holds-valid : {s : QoSScheduler} {t : State} → HoldsState s t → Accepted t → Valid s
 holds-valid k ok = record { whole = k .whole; accepted = subst Accepted (sym (k .state-is)) ok }
 
-pub stored-as : (t : State) {qs : List BandQueue} → HoldQueues qs (t .queues) → HoldsState (storedAs t qs) t
+pub stored-as : (t : State) {qs : List BandQueue} → HoldsQueues qs (t .queues) → HoldsState (storedAs t qs) t
 unfolding abs
 stored-as t h = record { whole = h .whole; state-is = λ i. withQueues t (h .entries-are i) }
 
@@ -65,7 +65,7 @@ module _ {s : QoSScheduler} {now : State} (k : HoldsState s now) where
   unfolding abs
   put-task slot is = record { whole = k .whole; state-is = λ i. withTask (k .state-is i) slot (is i) }
 
-  pub put-queues : {qs : List BandQueue} {q : Queues} → HoldQueues qs q → HoldsState (putQueues s qs) (withQueues now q)
+  pub put-queues : {qs : List BandQueue} {q : Queues} → HoldsQueues qs q → HoldsState (putQueues s qs) (withQueues now q)
   unfolding abs
   put-queues h = record { whole = h .whole; state-is = λ i. withQueues (k .state-is i) (h .entries-are i) }
 
