@@ -5,17 +5,17 @@ use mathlib.Core.List.{List, [], _∷_, _++_, append-assoc, map-append, map-eq-n
 use native.Mathlib.Omega.{arith}
 use lib.ListN.{length}
 use Rattle.rules.specs.declared.call.Call.{Call}
-use Rattle.scheduler.specs.declared.scheduler.QoSScheduler.{QoSScheduler}
-use Rattle.claims.specs.History.{Made, History, left, callsOf}
-use Rattle.scheduler.specs.Scheduler.{abs, Valid}
 use Rattle.rules.specs.State.{State}
 use Rattle.rules.specs.Step.{run}
-use Rattle.claims.proofs.Histories.{valid-left, left-append, history-append, left-is, answersFrom, answers-are, every-list-happens}
+use Rattle.scheduler.specs.declared.scheduler.QoSScheduler.{QoSScheduler}
+use Rattle.scheduler.specs.Scheduler.{abs, Valid}
 use Rattle.frames.specs.declared.decode.CallOption.{CallOption}
 use Rattle.frames.specs.declared.decode.CallOption.the-variants.{None, Some}
-use Rattle.claims.specs.Requests.{Protocol, callIn, callsAmong, NextCalls, Follows, Asks}
 use Rattle.frames.specs.ReadWrite.{ReadAs}
 use Rattle.frames.specs.Lines.{said}
+use Rattle.claims.specs.History.{Made, History, left, callsOf}
+use Rattle.claims.proofs.Histories.{valid-left, left-append, history-append, left-is, answersFrom, answers-are, every-list-happens}
+use Rattle.claims.specs.Requests.{Protocol, callIn, callsAmong, NextCalls, Follows, Asks}
 use Rattle.claims.specs.Demand3.{Start, startState}
 use Rattle.claims.proofs.Demand3.{start-as, demand3}
 

@@ -11,8 +11,6 @@ use Rattle.queue.specs.Stored.{Holds}
 use Rattle.queue.proofs.Stored as ring
 use Rattle.rules.specs.declared.answer.Answer.{Answer}
 use Rattle.rules.specs.declared.call.Call.{Call}
-use Rattle.scheduler.specs.declared.scheduler.QoSScheduler.{QoSScheduler}
-use Rattle.scheduler.specs.declared.scheduler.Reply.{Reply}
 use Rattle.rules.specs.State.{State, newState, queue}
 use Rattle.rules.specs.Accepted.{Accepted}
 use Rattle.rules.specs.Step.{step, run}
@@ -20,14 +18,16 @@ use Rattle.rules.specs.Took.{Carries}
 use Rattle.rules.specs.Stretch.{Event, events, breaks, picks}
 use Rattle.rules.specs.Waiting.{Point}
 use Rattle.rules.specs.Longest.{Longest}
-use Rattle.scheduler.specs.Scheduler.{abs, Valid, IsNew, Meets, MeetsLent}
-use Rattle.claims.specs.History.{Made, History, MadeEither, byValue, lent, Mixed, madeOf, left, callsOf, answersOf}
-use Rattle.claims.specs.History.{happened, stretchIn, outcomeOf, CodePoint, CodeClaim}
 use Rattle.rules.proofs.Calls.{new-accepted, call-accepted}
 use Rattle.rules.proofs.Stretches.{longest}
 use Rattle.rules.proofs.Waiting.{rules-demand3}
+use Rattle.scheduler.specs.declared.scheduler.QoSScheduler.{QoSScheduler}
+use Rattle.scheduler.specs.declared.scheduler.Reply.{Reply}
+use Rattle.scheduler.specs.Scheduler.{abs, Valid, IsNew, Meets, MeetsLent}
 use Rattle.scheduler.proofs.Arrays.{three-hold}
 use Rattle.scheduler.proofs.Builders.{storedAs, HoldsState, stored-as, holds-valid}
+use Rattle.claims.specs.History.{Made, History, MadeEither, byValue, lent, Mixed, madeOf, left, callsOf, answersOf}
+use Rattle.claims.specs.History.{happened, stretchIn, outcomeOf, CodePoint, CodeClaim}
 
 -- ---- what a history leaves, and where it is cut
 

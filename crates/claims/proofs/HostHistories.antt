@@ -9,32 +9,32 @@ use lib.Dec.{ltb}
 use lib.ListN.{length}
 use Rattle.records.proofs.Cases.{by-if}
 use Rattle.rules.specs.declared.call.Call.{Call}
-use Rattle.scheduler.specs.declared.scheduler.QoSScheduler.{QoSScheduler}
 use Rattle.rules.specs.State.{State}
 use Rattle.rules.specs.Step.{step, run}
 use Rattle.rules.specs.Stretch.{events}
+use Rattle.rules.proofs.Stretches.{run-append}
+use Rattle.scheduler.specs.declared.scheduler.QoSScheduler.{QoSScheduler}
 use Rattle.frames.specs.declared.decode.CallOption.{CallOption}
 use Rattle.frames.specs.declared.decode.CallOption.the-variants.{None, Some}
 use Rattle.frames.specs.declared.refusal.HostError.{HostError}
 use Rattle.frames.specs.declared.refusal.HostError.the-variants.{WrongLength, NoFrame}
 use Rattle.frames.specs.AcceptedImage.{AcceptedImage}
-use Rattle.claims.specs.Requests.{callIn, callsAmong, AskedPoint, Asks}
-use Rattle.claims.specs.HostClaim.{HostCall, HostCalls, imageLeft, refusalTo, byHost, HostClaim}
 use Rattle.frames.specs.Bytes.{AllBytes}
 use Rattle.frames.specs.Fits.{HasImage}
 use Rattle.frames.specs.Frame.{frameCall}
 use Rattle.frames.specs.Host.{refusalReturned, answerRoom, hostRefused, hostAnswered, hostCalled, hostStep}
 use Rattle.frames.specs.Image.{imageOf, stateAt}
-use Rattle.claims.specs.Demand3.{ReadFrom, fromImage}
 use Rattle.frames.proofs.AcceptedImages.{accepted-state}
-use Rattle.claims.proofs.Demand3.{a-reading}
-use Rattle.claims.proofs.Histories.{answersFrom}
-use Rattle.claims.proofs.Follows.{run-said, Chain, asks}
-use Rattle.rules.proofs.Stretches.{run-append}
 use Rattle.frames.proofs.AnswersFit.{pick-told}
 use Rattle.frames.proofs.Images.{writes-back}
 use Rattle.frames.proofs.StatesFit.{image-fits, image-has-image, frame-image}
 use Rattle.frames.proofs.Hosts.{short-step, accepted-step}
+use Rattle.claims.specs.Requests.{callIn, callsAmong, AskedPoint, Asks}
+use Rattle.claims.specs.HostClaim.{HostCall, HostCalls, imageLeft, refusalTo, byHost, HostClaim}
+use Rattle.claims.specs.Demand3.{ReadFrom, fromImage}
+use Rattle.claims.proofs.Demand3.{a-reading}
+use Rattle.claims.proofs.Histories.{answersFrom}
+use Rattle.claims.proofs.Follows.{run-said, Chain, asks}
 
 -- an accepted image that holds a state
 record Holding (s : State) (image : List ℕ) : Type 0 where

@@ -3,13 +3,13 @@
 use mathlib.Core.Path.{sym, subst}
 use mathlib.Core.List.{List, [], _∷_}
 use Prim.Native.Nat.{ℕ}
-use Rattle.rules.specs.declared.call.Call.{Call}
-use Rattle.scheduler.specs.declared.scheduler.QoSScheduler.{QoSScheduler}
-use Rattle.scheduler.specs.declared.scheduler.Reply.{Reply}
 use Rattle.records.specs.Lists.{Each}
-use Rattle.scheduler.specs.Scheduler.{abs, Valid, Meets}
+use Rattle.rules.specs.declared.call.Call.{Call}
 use Rattle.rules.specs.State.{State, newState}
 use Rattle.rules.specs.Step.{step, run}
+use Rattle.scheduler.specs.declared.scheduler.QoSScheduler.{QoSScheduler}
+use Rattle.scheduler.specs.declared.scheduler.Reply.{Reply}
+use Rattle.scheduler.specs.Scheduler.{abs, Valid, Meets}
 use Rattle.frames.specs.AcceptedImage.{AcceptedImage}
 use Rattle.frames.specs.Fits.{FitsCall, HasImage}
 use Rattle.frames.specs.Image.{stateAt, FitsImage}

@@ -8,12 +8,11 @@ use lib.Dec.{ltb}
 use lib.ListN.{length}
 use lib.Seq.{sets}
 use Rattle.rules.specs.declared.answer.Answer.{Answer}
-use Rattle.scheduler.specs.declared.scheduler.QoSScheduler.{QoSScheduler}
-use Rattle.claims.specs.History.{Made, left}
 use Rattle.rules.specs.Paper.{pickNumbers}
-use Rattle.scheduler.specs.Scheduler.{abs}
 use Rattle.rules.specs.State.{State}
 use Rattle.rules.specs.Step.{run}
+use Rattle.scheduler.specs.declared.scheduler.QoSScheduler.{QoSScheduler}
+use Rattle.scheduler.specs.Scheduler.{abs}
 use Rattle.frames.specs.declared.refusal.HostError.{HostError}
 use Rattle.frames.specs.declared.refusal.HostError.the-variants.{WrongLength, NoFrame}
 use Rattle.frames.specs.AcceptedImage.{AcceptedImage}
@@ -22,6 +21,7 @@ use Rattle.frames.specs.Bytes.{AllBytes}
 use Rattle.frames.specs.Frame.{frameCall}
 use Rattle.frames.specs.Host.{refusalReturned, answerRoom, Hosted, hostStep}
 use Rattle.frames.specs.Image.{imageOf, stateAt}
+use Rattle.claims.specs.History.{Made, left}
 use Rattle.claims.specs.Demand3.{ReadFrom}
 use Rattle.claims.specs.Requests.{Protocol, callsAmong, callIn, RefusedOr, AskedPoint, Asks}
 

@@ -4,12 +4,12 @@ use mathlib.Core.Path.{_≡_}
 use mathlib.Core.List.{List, [], _∷_, _++_, flatMap}
 use Rattle.rules.specs.declared.answer.Answer.{Answer}
 use Rattle.rules.specs.declared.call.Call.{Call}
-use Rattle.scheduler.specs.declared.scheduler.QoSScheduler.{QoSScheduler}
-use Rattle.claims.specs.History.{Made, History, left, callsOf, answersOf, CodePoint}
-use Rattle.scheduler.specs.Scheduler.{abs}
 use Rattle.rules.specs.State.{State}
+use Rattle.scheduler.specs.declared.scheduler.QoSScheduler.{QoSScheduler}
+use Rattle.scheduler.specs.Scheduler.{abs}
 use Rattle.frames.specs.declared.decode.CallOption.{CallOption}
 use Rattle.frames.specs.declared.decode.CallOption.the-variants.{None, Some}
+use Rattle.claims.specs.History.{Made, History, left, callsOf, answersOf, CodePoint}
 
 -- how requests of a kind are read, and what they are told; kinds that stand in one list are a protocol over their sum
 pub record Protocol (A : Type 0) : Type 1 where

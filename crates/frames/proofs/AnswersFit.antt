@@ -39,7 +39,7 @@ use Rattle.rules.specs.Ticking.{staysHolder, gain, targetOf, same, planOf}
 use Rattle.rules.specs.Waking.{freeSlot, coreHolding}
 use Rattle.rules.proofs.Calls.{call-accepted}
 use Rattle.rules.specs.Took.{Reach}
-use Rattle.rules.proofs.Ways.{Picking, picks-one, picks-none, P-way, Telling, bySlot, byPlan, toldAs, Tells, nobody, no-plan, a-flag, a-slot, a-core}
+use Rattle.rules.proofs.Ways.{PEnd, picks-one, picks-none, P-way, Telling, bySlot, byPlan, toldAs, Tells, nobody, no-plan, a-flag, a-slot, a-core}
 use Rattle.rules.proofs.Ways.{a-record, a-holder, the-time, Deed, by-create, by-affinity, by-terminate, by-block, by-wake, by-queueing, Way, refuses, tells}
 use Rattle.rules.proofs.Ways.{does, keeps, comes, way}
 use Rattle.frames.specs.Answer.{valueWidths, answerBytes, pickIn}
@@ -94,7 +94,7 @@ abbrev NextFits : Chosen → Type 0
 NextFits c = Accepted (c .state) → SlotFits (c .next) × PickFits (c .pick)
 
 -- a pick is then the core's holder
-P-next : (s : State) (c : ℕ) → c < 64 → {o : Chosen} → Picking s c o → NextFits o
+P-next : (s : State) (c : ℕ) → c < 64 → {o : Chosen} → PEnd s c o → NextFits o
 P-next s c low picks-none a = (omega arith, tt)
 P-next s c low (picks-one p) a =
     let i : ℕ = p .slot .0 in

@@ -37,7 +37,7 @@ use Rattle.rules.proofs.Calls.{new-accepted, call-accepted}
 use Rattle.rules.proofs.Invariant.{Good, empty-good, everywhere, accepted-invariant}
 use Rattle.rules.specs.declared.answer.Value.{Value}
 use Rattle.rules.specs.Took.{Reach}
-use Rattle.rules.proofs.Ways.{Picking, picks-one, picks-none, P-way, Requeued, queued, not-queued, requeued-way, Deed, by-create, by-affinity, by-terminate}
+use Rattle.rules.proofs.Ways.{PEnd, picks-one, picks-none, P-way, Requeued, queued, not-queued, requeued-way, Deed, by-create, by-affinity, by-terminate}
 use Rattle.rules.proofs.Ways.{by-block, by-wake, by-queueing, Timed, at-once, later, Approach, straight, clearing, slice-over, yielding, Way, refuses, tells}
 use Rattle.rules.proofs.Ways.{does, keeps, comes, way}
 use Rattle.frames.specs.declared.decode.CallOption.{CallOption}
@@ -110,7 +110,7 @@ mask-small : (mask : ℕ) → mask < 256 ^ 8 → storedMask mask < 256 ^ 8
 mask-small mask small = by-if (λ (m : ℕ). m < 256 ^ 8) (eqb mask 0) (λ _. omega arith) (λ _. small)
 
 -- no record is given other numbers, but by create and affinity
-P-bounded : (c : ℕ) (s : State) {o : Chosen} → Picking s c o → Bounded s → Bounded (o .state)
+P-bounded : (c : ℕ) (s : State) {o : Chosen} → PEnd s c o → Bounded s → Bounded (o .state)
 P-bounded c s (picks-one p) b = put s (p .slot .0) (picked (task s (p .slot .0))) (b .0 (p .slot .0)) b
 P-bounded c s picks-none b = b
 
@@ -147,7 +147,7 @@ module _ (s : State) (b : Bounded s) where
   approach-bounded (clearing gone h is blocked) = timed-bounded gone
   approach-bounded (slice-over elapsed h is named awake ended) =
       queued-bounded (h .0) (requeued-way (h .0) (gain elapsed s)) (consumed-bounded (h .0) 0 (gain elapsed s) (gained-bounded elapsed s b))
-  approach-bounded (yielding h is named idle) = put s (h .0) (withState (task s (h .0)) Ready) (b .0 (h .0)) b
+  approach-bounded (yielding h is named runs) = put s (h .0) (withState (task s (h .0)) Ready) (b .0 (h .0)) b
 
   -- a holder that is charged and stays, and P
   pub kept-bounded : (h : Slot) (elapsed : ℕ) → Bounded (staysHolder h elapsed (gain elapsed s) .state)

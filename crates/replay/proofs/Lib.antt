@@ -1,6 +1,6 @@
 -- Laws about the definitions of specs/.
 --
 --   Comparing   the loop that compares an answer with a stored one
---   Counted     what a line adds to the counts
+--   Tallies     what a line adds to the counts
 mod Comparing
-mod Counted
+mod Tallies

@@ -1,3 +1,3 @@
 -- When an answer is as it was stored, and what is counted.
 pub mod Comparing
-pub mod Counted
+pub mod Tallies

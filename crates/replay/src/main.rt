@@ -7,7 +7,7 @@ ghost use mathlib.Core.Path.{_≡_};
 ghost use Prim.Native.Nat.{_≤_};
 ghost use lib.ListN.{length};
 ghost use Rattle.frames.specs.Stream.{ValidStream};
-ghost use Rattle.replay.specs.Counted.{isName, Compares, Replays};
+ghost use Rattle.replay.specs.Tallies.{isName, Compares, Replays};
 ghost use Rattle.replay.specs.Comparing.{asStored};
 use frames::Stream;
 use libc::STDIN_FILENO;

@@ -9,6 +9,7 @@ use lib.Dec.{leb}
 use Rattle.records.specs.declared.error.SchedError.{SchedError}
 use Rattle.records.specs.declared.ids.Slot.{Slot}
 use Rattle.records.specs.declared.ids.SlotOption.the-variants as slot
+use Rattle.records.specs.declared.state.ThreadState.the-variants.{Running}
 use Rattle.records.specs.Band.{slice}
 use Rattle.records.specs.Task.{withConsumed}
 use Rattle.records.proofs.Cases.{neither}
@@ -24,7 +25,7 @@ use Rattle.rules.specs.Step.{step}
 use Rattle.rules.specs.Stretch.{changes, names, concern}
 use Rattle.rules.specs.Ticking.{gain, cleared, waitsBefore, charged, sliceOver, requeued}
 use Rattle.rules.specs.Took.{Reach, unreached, reaches, outOfSlice, reach}
-use Rattle.rules.proofs.Effects.{present, holder-is, creates, sets-mask, blocks, wakes-holder, consumes, clears, terminates, yields, slice-ends}
+use Rattle.rules.proofs.Effects.{present, idle-in, holder-is, creates, sets-mask, blocks, wakes-holder, consumes, clears, terminates, yields, slice-ends}
 use Rattle.rules.proofs.Invariant.{Invariant, used-in-table, never-full}
 use Rattle.rules.proofs.Moves.{Harmless, stay, then, to-tail, time}
 use Rattle.rules.proofs.Ways.{Refusal, by-table, by-full-queue, by-free-holder, Deed, by-create, by-affinity, by-terminate, by-block, by-wake}
@@ -84,7 +85,8 @@ module _ (s : State) (k : Invariant s) where
         let ends : Harmless safe u (outOfSlice (h .0) u) × (requeued (h .0) u ≡ outOfSlice (h .0) u) =
         slice-ends u (g .invariant) (h .0) (holder-is s k _ h is .used) in
         (then s u (outOfSlice (h .0) u) g (ends .0), ends .1)
-    approach-harmless low (yielding h is named idle) = (yields s k (h .0) _ low (holder-is s k _ h is .used) idle, refl)
+    approach-harmless low (yielding h is named runs) =
+        (yields s k (h .0) _ low (holder-is s k _ h is .used) (idle-in (task s (h .0)) Running runs refl), refl)
 
     -- the holder stays: its consumed time is still below its slice
     kept-harmless : (c elapsed : ℕ) (h : Slot) → holderOf s c ≡ slot.Some h → sliceOver (h .0) elapsed c (gain elapsed s) ≡ false →

@@ -16,7 +16,7 @@ use Rattle.rules.specs.Step.{step}
 use Rattle.rules.specs.Touched.{namedSlot, valueSlot, pickedOr, answeredSlot, SameBut}
 use Rattle.rules.specs.declared.answer.Value.{Value}
 use Rattle.rules.specs.Took.{Reach}
-use Rattle.rules.proofs.Ways.{Picking, picks-one, picks-none, P-way, Requeued, queued, not-queued, requeued-way, Deed, by-create, by-affinity}
+use Rattle.rules.proofs.Ways.{PEnd, picks-one, picks-none, P-way, Requeued, queued, not-queued, requeued-way, Deed, by-create, by-affinity}
 use Rattle.rules.proofs.Ways.{by-terminate, by-block, by-wake, by-queueing, Timed, at-once, later, Approach, straight, clearing, slice-over, yielding}
 use Rattle.rules.proofs.Ways.{Way, refuses, tells, does, keeps, comes, way}
 
@@ -25,7 +25,7 @@ stored-elsewhere : (s : State) (i j : ℕ) (t : TaskControlBlock) → (j ≡ i �
 stored-elsewhere s i j t other = getD-set-other (s .tasks) i j t emptyRecord other
 
 -- P changes the record of its pick alone
-P-stays : (j c : ℕ) (s : State) {o : Chosen} → Picking s c o → (value : ℕ) → (j ≡ pickedOr (o .pick) value → ⊥) → task (o .state) j ≡ task s j
+P-stays : (j c : ℕ) (s : State) {o : Chosen} → PEnd s c o → (value : ℕ) → (j ≡ pickedOr (o .pick) value → ⊥) → task (o .state) j ≡ task s j
 P-stays j c s (picks-one p) value other = getD-set-other (s .tasks) (p .slot .0) j _ emptyRecord other
 P-stays j c s picks-none value other = refl
 
@@ -61,7 +61,7 @@ module _ (s : State) (j : ℕ) where
   approach-stays (straight gone) other = timed-stays gone
   approach-stays (clearing gone h is blocked) other = timed-stays gone
   approach-stays {call} (slice-over elapsed h is named awake ended) other = requeued-stays (h .0) j (gain elapsed s) (not-it call s other named)
-  approach-stays {call} (yielding h is named idle) other = stored-elsewhere s (h .0) j _ (not-it call s other named)
+  approach-stays {call} (yielding h is named runs) other = stored-elsewhere s (h .0) j _ (not-it call s other named)
 
   way-stays : {call : Call} {o : Outcome} {r : Reach} → Way s call o r → NotNamed j call s → (j ≡ answeredSlot (o .answer) → ⊥) → task (o .state) j ≡ task s j
   way-stays (refuses e why) other answered = refl

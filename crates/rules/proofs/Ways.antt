@@ -114,7 +114,7 @@ pub data Approach (s : State) (call : Call) (c : ℕ) : State → State → Type
       sliceOver (h .0) elapsed c (gain elapsed s) ≡ true →
       Approach s call c (requeued (h .0) (gain elapsed s)) (outOfSlice (h .0) (gain elapsed s))
   -- a Running holder yields
-  yielding : (h : Slot) → holderOf s c ≡ slot.Some h → namedSlot call s ≡ h .0 → isState (task s (h .0) .state) Ready ≡ false →
+  yielding : (h : Slot) → holderOf s c ≡ slot.Some h → namedSlot call s ≡ h .0 → isState (task s (h .0) .state) Running ≡ true →
       Approach s call c (cleared c (enqueued (h .0) s)) (cleared c (enqueued (h .0) s))
 
 pub data Way (s : State) : Call → Outcome → Reach → Type 0 where
@@ -126,7 +126,8 @@ pub data Way (s : State) : Call → Outcome → Reach → Type 0 where
   does : {call : Call} (v : Value) (t : State) → Deed s call v t → Way s call (done v t) unreached
   -- a tick's holder, which is not Blocked, is charged, and stays
   keeps : {call : Call} (how : Telling) (c elapsed : ℕ) (h : Slot) → c < 64 → holderOf s c ≡ slot.Some h → namedSlot call s ≡ h .0 →
-      isState (task s (h .0) .state) Blocked ≡ false → sliceOver (h .0) elapsed c (gain elapsed s) ≡ false → Way s call (toldAs how (slot.Some h) (staysHolder h elapsed (gain elapsed s))) unreached
+      isState (task s (h .0) .state) Blocked ≡ false → sliceOver (h .0) elapsed c (gain elapsed s) ≡ false →
+      Way s call (toldAs how (slot.Some h) (staysHolder h elapsed (gain elapsed s))) unreached
   -- it comes to P, on the core that it names
   comes : {call : Call} (how : Telling) (previous : SlotOption) (c : ℕ) (t u : State) → c < 64 → concern call ≡ names c → holderOf s c ≡ previous →
       Approach s call c t u → Way s call (toldAs how previous (ruleP c t)) (reaches u c)
@@ -134,14 +135,14 @@ pub data Way (s : State) : Call → Outcome → Reach → Type 0 where
 -- ---- P, and a holder's way back to its queue
 
 -- on a core below 64 P takes somebody, or nobody
-pub data Picking (s : State) (c : ℕ) : Chosen → Type 0 where
-  picks-one : (p : Pick) → Picking s c (afterPick s c (pick.Some p))
-  picks-none : Picking s c (afterPick s c pick.None)
+pub data PEnd (s : State) (c : ℕ) : Chosen → Type 0 where
+  picks-one : (p : Pick) → PEnd s c (afterPick s c (pick.Some p))
+  picks-none : PEnd s c (afterPick s c pick.None)
 
-pub P-way : (s : State) (c : ℕ) → c < 64 → Picking s c (ruleP c s)
-P-way s c low = subst (Picking s c) (sym (P-below s c low)) (by-choice (choice s c bandOrder))
+pub P-way : (s : State) (c : ℕ) → c < 64 → PEnd s c (ruleP c s)
+P-way s c low = subst (PEnd s c) (sym (P-below s c low)) (by-choice (choice s c bandOrder))
   where
-    by-choice : (o : PickOption) → Picking s c (afterPick s c o)
+    by-choice : (o : PickOption) → PEnd s c (afterPick s c o)
     by-choice (pick.Some p) = picks-one p
     by-choice pick.None = picks-none
 
@@ -199,7 +200,8 @@ module _ (s : State) where
   unfolding block
   block-way i =
       by-if (Quiet s (Block i)) (missing s (i .0)) (λ _. no-task s) (λ here.
-      by-if (Quiet s (Block i)) (isState (task s (i .0) .state) Blocked) (λ _. refuse s AlreadyBlocked (λ n. omega arith)) (λ awake. does _ _ (by-block i here awake)))
+      by-if (Quiet s (Block i)) (isState (task s (i .0) .state) Blocked) (λ _. refuse s AlreadyBlocked (λ n. omega arith)) (λ awake.
+      does _ _ (by-block i here awake)))
 
   wake-way : (i : Slot) → Quiet s (Wake i) (wake (i .0) s)
   unfolding wake
@@ -225,7 +227,8 @@ module _ (s : State) (call : Call) (c : ℕ) (low : c < 64) (on-it : concern cal
       let OverReach : Bool → Reach = λ (b : Bool). cond b (reaches (outOfSlice (h .0) u) c) unreached in
       let over : Bool = sliceOver (h .0) elapsed c u in
       rw (switches-is (h .0) elapsed c u) (
-      split (λ (b : Bool). Way s call (toldAs how (slot.Some h) (cond b (ruleP c (cleared c u)) (Over over))) (cond b (reaches (cleared c u) c) (OverReach over)))
+      split (λ (b : Bool). Way s call (toldAs how (slot.Some h) (cond b (ruleP c (cleared c u)) (Over over)))
+      (cond b (reaches (cleared c u) c) (OverReach over)))
       (isState (task u (h .0) .state) Blocked)
       (λ blocked. comes how (slot.Some h) c _ _ low on-it is (clearing (later elapsed) h is blocked))
       (λ awake. split (λ (b : Bool). Way s call (toldAs how (slot.Some h) (Over b)) (OverReach b)) over
@@ -244,7 +247,7 @@ module _ (s : State) (call : Call) (c : ℕ) (low : c < 64) (on-it : concern cal
       by-if Ends (missing s (h .0)) (λ lost. refuses NoSuchTask (by-free-holder c h is lost)) (λ here.
       by-if Ends (isState (task s (h .0) .state) Ready) (λ ready. absurd (true≢false (sym ready ∙ idle-in (task s (h .0)) Running runs refl))) (λ idle.
       by-if Ends (full (queue s (task s (h .0) .qos))) (λ none-left. refuses QueueFull (by-full-queue (h .0) here idle none-left)) (λ _.
-      comes byPlan (slot.Some h) c _ _ low on-it is (yielding h is (named h is) idle)))))
+      comes byPlan (slot.Some h) c _ _ low on-it is (yielding h is (named h is) runs)))))
       (λ _. no-task s)
 
   handoff-way : (h : SlotOption) → holderOf s c ≡ h → Way s call (handoffHolder h c s) (handoffReach h c s)

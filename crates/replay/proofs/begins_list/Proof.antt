@@ -1,6 +1,6 @@
 -- `begins_list` meets its contract. Assumes nothing.
 use borrow.Author.Needs.{needs}
-use Rattle.replay.proofs.Counted.{name-by, no-name}
+use Rattle.replay.proofs.Tallies.{name-by, no-name}
 use Rattle.replay.proofs.begins_list.Statement.{statement}
 use Rattle.replay.proofs.begins_list.Tie as tie
 

@@ -4,8 +4,8 @@ use mathlib.Core.Path.{refl, sym, _∙_}
 use borrow.Author.Needs.{needs}
 use borrow.Author.Tests.{not-true, not-false}
 use lib.Seq.{length-take-le}
-use Rattle.replay.specs.Counted.{countsIn}
-use Rattle.replay.proofs.Counted.{compares}
+use Rattle.replay.specs.Tallies.{countsIn}
+use Rattle.replay.proofs.Tallies.{compares}
 use Rattle.replay.proofs.compared.Statement.{statement}
 use Rattle.replay.proofs.compared.Tie as tie
 

@@ -3,8 +3,8 @@ use mathlib.Core.Path.{refl, sym, ap, _∙_}
 use native.Mathlib.Omega.{arith}
 use borrow.Author.Needs.{needs}
 use Rattle.scheduler.specs.Scheduler.{abs}
-use Rattle.replay.specs.Counted.{anAnswer, aName, aFrame}
-use Rattle.replay.proofs.Counted.{an-answer, a-name, a-frame}
+use Rattle.replay.specs.Tallies.{anAnswer, aName, aFrame}
+use Rattle.replay.proofs.Tallies.{an-answer, a-name, a-frame}
 use Rattle.replay.proofs.replay_line.Statement.{statement}
 use Rattle.replay.proofs.replay_line.Tie as tie
 

@@ -7,7 +7,7 @@ use native.Mathlib.Omega.{arith}
 use borrow.Author.Tests.{lt-ltb, le-ltb}
 use lib.Dec.{eqb, ltb}
 use lib.ListN.{length, take, getD}
-use Rattle.replay.specs.Counted.{Counts, more, isName, withAnswer, withList, withLine}
+use Rattle.replay.specs.Tallies.{Counts, more, isName, withAnswer, withList, withLine}
 use Rattle.replay.specs.Comparing.{asStored}
 
 -- an answer, by whether it is the stored one
