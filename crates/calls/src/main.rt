@@ -3,6 +3,8 @@
 //
 // It reads, feeds what it read to a stream, and writes what comes back. What a feeding makes is proved (`Stream::feed` of
 // frames), and that all of a block is fed, in order; what a read brings and what a write does is not.
+#![tactic(auto)]
+
 ghost use Rattle.std.specs.Prelude.{true, ◌≡◌, ◌≤◌, length};
 ghost use Rattle.calls.specs.Program.{FeedsBlock};
 ghost use Rattle.frames.specs.Stream.{longest_answer, ValidStream};
@@ -12,7 +14,7 @@ use libc::{STDERR_FILENO, STDIN_FILENO, STDOUT_FILENO};
 use scheduler::QoSScheduler;
 
 // A stream, and whether all answers so far were written.
-#[derive(Drop)]
+#[derive(Clone, Copy)]
 struct Progress {
     stream: Stream,
     is_written: bool,

@@ -14,7 +14,7 @@ const CALLS: usize = 17;
 const FRAME_LENGTHS: [usize; CALLS] = [30, 17, 9, 9, 9, 9, 9, 13, 9, 9, 13, 17, 5, 9, 9, 1, 9];
 
 // What a frame stands for.
-#[derive(Drop)]
+#[derive(Clone, Copy)]
 pub enum CallOption {
     // Nothing: refusal 9, for a bad digit, an unknown call, a wrong length or a band above 2.
     None,

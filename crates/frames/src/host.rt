@@ -13,7 +13,7 @@ use crate::touched::{answered_slot, named_slot};
 use scheduler::{Answer, Call, QoSScheduler, Status};
 
 // What a call on an image came to.
-#[derive(Drop)]
+#[derive(Clone, Copy)]
 pub enum ImageAnswer {
     // The image was refused, with 7 or 8.
     Refused(HostError),

@@ -20,6 +20,8 @@
 // Nothing is presumed of any bytes: what is no frame is refused with 9, and what is no image with 7 or 8. Each function
 // promises its whole result and the whole contents of the buffers that it is lent, as equal to definitions on lists of
 // bytes in specs/; proofs/ has the laws of those definitions.
+#![tactic(auto)]
+
 mod accept;
 mod bytes;
 mod decode;

@@ -32,7 +32,7 @@ const BLANK: TaskControlBlock = TaskControlBlock {
 };
 
 // Whether bytes are an image that is accepted.
-#[derive(Drop)]
+#[derive(Clone, Copy)]
 pub enum ImageStatus {
     Accepted,
     // With 7 for their number, or 8 for their contents.
@@ -40,7 +40,7 @@ pub enum ImageStatus {
 }
 
 // What bytes were read as: the scheduler that an accepted image stands for; the new one, where they are refused.
-#[derive(Drop)]
+#[derive(Clone, Copy)]
 pub struct ImageRead {
     pub status: ImageStatus,
     pub state: QoSScheduler,

@@ -6,7 +6,7 @@ ghost use Rattle.frames.specs.Host.{host_number};
 pub(crate) const NO_FRAME: u64 = 9;
 
 // Why no call was made.
-#[derive(Drop)]
+#[derive(Clone, Copy)]
 pub enum HostError {
     // 7: the image does not have IMAGE_BYTES bytes, or the answer buffer has under ANSWER_MAX.
     WrongLength,

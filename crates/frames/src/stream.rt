@@ -14,7 +14,7 @@ use scheduler::QoSScheduler;
 const HELD_MAX: usize = LINE_MAX + 1;
 
 // A scheduler, and what is there of a line that is not answered yet.
-#[derive(Drop)]
+#[derive(Clone, Copy)]
 pub struct Stream {
     pub state: QoSScheduler,
     held: [u8; HELD_MAX],
@@ -23,7 +23,7 @@ pub struct Stream {
 }
 
 // What a block made of a stream.
-#[derive(Drop)]
+#[derive(Clone, Copy)]
 pub struct Fed {
     pub stream: Stream,
     // how many bytes of the block are done with: all of them, unless the buffer is full

@@ -2,6 +2,8 @@
 // and query on a busy scheduler's image, and every refusal. A line has what was passed and the answer buffer's length, the
 // number returned, the answer, and whether the image and the bytes past the answer are as they were. Images are also read,
 // and called on, without a frame.
+#![tactic(auto)]
+
 ghost use Rattle.scheduler.specs.Scheduler.{Valid};
 
 mod answers;

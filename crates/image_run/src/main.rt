@@ -1,5 +1,7 @@
 // Writes images of a new scheduler, of a busy one and of one with a full queue and prints their parts, then changes them a
 // byte or a few at a time, and prints for each condition of document 01 whether the image is accepted.
+#![tactic(auto)]
+
 ghost use Rattle.scheduler.specs.Scheduler.{Valid};
 
 mod show;

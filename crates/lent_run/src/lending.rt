@@ -5,7 +5,7 @@ use records::Slot;
 use scheduler::{Answer, Call, QoSScheduler};
 
 // What came of it: the answers, and the state behind the reference after each.
-#[derive(Drop)]
+#[derive(Clone, Copy)]
 pub(crate) struct Lent {
     pub blocked: Answer,
     pub between: QoSScheduler,

@@ -1,6 +1,8 @@
 // Runs block and tick on a lent state beside the methods by value, and compares both answers and both whole states: first
 // cases of document 01, whose answers are printed, then a long list of calls by value with a lent block and a lent tick
 // between every two.
+#![tactic(auto)]
+
 mod cases;
 mod comparing;
 mod lending;

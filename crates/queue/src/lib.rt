@@ -3,6 +3,8 @@
 // What a queue holds is `entries`, its slots from front to tail; every promise below speaks of that list alone. A call
 // presumes at most that the queue is well formed, as `new` and every call here leave it. The laws for the crates above
 // are in proofs/Entries.antt, Counts.antt and Stored.antt.
+#![tactic(auto)]
+
 ghost use Rattle.std.specs.Prelude.{◌≡◌, length, take, []};
 ghost use Rattle.queue.specs.Stored.{entries, WellFormed, Holds};
 ghost use Rattle.queue.specs.Entries.{entry_at, without, places};
@@ -11,7 +13,7 @@ ghost use Rattle.queue.specs.Promises.{Push, Take};
 use records::{MAX_TASKS, Slot, SlotOption};
 
 // The entries stand in `len` places of the ring from `head` on, going round its end.
-#[derive(Drop)]
+#[derive(Clone, Copy)]
 pub struct BandQueue {
     ring: [u8; MAX_TASKS],
     head: usize,
@@ -19,14 +21,14 @@ pub struct BandQueue {
 }
 
 // The answer of a push: whether the slot was taken in, and the queue as it is then.
-#[derive(Drop)]
+#[derive(Clone, Copy)]
 pub struct Pushed {
     pub ok: bool,
     pub queue: BandQueue,
 }
 
 // The answer of a pop or a take: the slot that left, if any, and the queue as it is then.
-#[derive(Drop)]
+#[derive(Clone, Copy)]
 pub struct Taken {
     pub slot: SlotOption,
     pub queue: BandQueue,

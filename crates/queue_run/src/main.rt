@@ -1,5 +1,7 @@
 // Runs one band's queue step by step and prints what it holds, from front to tail: document 01's case K4 on a queue
 // alone, removal, a ring that goes round its end, and a full queue.
+#![tactic(auto)]
+
 ghost use Rattle.queue.specs.Stored.{WellFormed};
 
 use libc::STDOUT_FILENO;

@@ -2,7 +2,7 @@
 ghost use Rattle.std.specs.Prelude.{◌≡◌};
 ghost use Rattle.records.specs.Band.{IsBandCode, coded_band, slice};
 
-#[derive(Drop)]
+#[derive(Clone, Copy)]
 pub enum QoSClass {
     UserInteractive,
     RealTimeIO,
@@ -10,7 +10,7 @@ pub enum QoSClass {
 }
 
 // A band read from a byte: None where no band has that code.
-#[derive(Drop)]
+#[derive(Clone, Copy)]
 pub enum BandOption {
     None,
     Some(QoSClass),

@@ -2,7 +2,7 @@
 ghost use Rattle.std.specs.Prelude.{◌≡◌};
 ghost use Rattle.records.specs.Error.{error_code};
 
-#[derive(Drop)]
+#[derive(Clone, Copy)]
 pub enum SchedError {
     // No slot is free.
     TableFull,

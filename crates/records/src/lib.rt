@@ -8,6 +8,8 @@
 //   task     TaskControlBlock: the empty record, a created one, and a record with something changed
 //
 // Every function here answers for all arguments and ensures its whole result, as equal to a definition of specs/.
+#![tactic(auto)]
+
 mod band;
 mod error;
 mod ids;

@@ -2,7 +2,7 @@
 ghost use Rattle.std.specs.Prelude.{◌≡◌};
 ghost use Rattle.records.specs.ThreadState.{state_code, coded_state, is_state};
 
-#[derive(Drop)]
+#[derive(Clone, Copy)]
 pub enum ThreadState {
     // Waits in its band's queue.
     Ready,
@@ -15,7 +15,7 @@ pub enum ThreadState {
 }
 
 // A state read from a byte: None where no state has that code.
-#[derive(Drop)]
+#[derive(Clone, Copy)]
 pub enum StateOption {
     None,
     Some(ThreadState),

@@ -9,7 +9,7 @@ use crate::mask::{ALL_CORES, stored_mask};
 use crate::state::ThreadState;
 
 // The small fields stand together, so that a record takes 48 bytes and not 56: a state is copied whole at each call by value.
-#[derive(Drop)]
+#[derive(Clone, Copy)]
 pub struct TaskControlBlock {
     pub tid: Tid,
     pub qos: QoSClass,

@@ -3,6 +3,8 @@
 // Standard input has one list behind the other. A line that begins with `=` names the list that follows, which starts
 // with a new scheduler; then every frame takes a line and its answer the next. A stored `.` stands for any digit: of a byte
 // that the Rust has no part in. oracle/README.md says how the lists were made. The last line counts what was compared.
+#![tactic(auto)]
+
 ghost use Rattle.std.specs.Prelude.{◌≡◌, ◌≤◌, length};
 ghost use Rattle.frames.specs.Stream.{ValidStream};
 ghost use Rattle.replay.specs.Tallies.{is_name, Compares, Replays};
@@ -22,7 +24,7 @@ const NAME: u8 = b'=';
 const ANY: u8 = b'.';
 
 // Where a replay stands.
-#[derive(Drop)]
+#[derive(Clone, Copy)]
 struct Replay {
     stream: Stream,
     // How many bytes the last frame's answer has that waits for the stored one; 0 where a frame or a name comes next.

@@ -1,7 +1,7 @@
 // What a call answers: a status, the pick that was made, and a value.
 use records::{QoSClass, SchedError, Slot, SlotOption, TaskControlBlock};
 
-#[derive(Drop)]
+#[derive(Clone, Copy)]
 pub struct Answer {
     pub status: Status,
     // What the picking rule took in this call.
@@ -9,7 +9,7 @@ pub struct Answer {
     pub value: Value,
 }
 
-#[derive(Drop)]
+#[derive(Clone, Copy)]
 pub enum Status {
     Done,
     // Nothing was changed.
@@ -17,19 +17,19 @@ pub enum Status {
 }
 
 // A slot that was picked, and the band whose queue it left.
-#[derive(Drop)]
+#[derive(Clone, Copy)]
 pub struct Pick {
     pub slot: Slot,
     pub band: QoSClass,
 }
 
-#[derive(Drop)]
+#[derive(Clone, Copy)]
 pub enum PickOption {
     None,
     Some(Pick),
 }
 
-#[derive(Drop)]
+#[derive(Clone, Copy)]
 pub enum Value {
     // affinity, terminate, block, wake, enqueue, and every refusal
     Nothing,
@@ -47,19 +47,19 @@ pub enum Value {
     Micros(u64),
 }
 
-#[derive(Drop)]
+#[derive(Clone, Copy)]
 pub enum CoreOption {
     None,
     Some(usize),
 }
 
-#[derive(Drop)]
+#[derive(Clone, Copy)]
 pub enum TaskOption {
     None,
     Some(TaskControlBlock),
 }
 
-#[derive(Drop)]
+#[derive(Clone, Copy)]
 pub enum PlanOption {
     // The core goes on as it was.
     None,
@@ -67,13 +67,13 @@ pub enum PlanOption {
 }
 
 // What the kernel is to do on a core: switch from the previous holder, if there was one, to the target.
-#[derive(Drop)]
+#[derive(Clone, Copy)]
 pub struct ContextSwitchPlan {
     pub prev_task_idx: SlotOption,
     pub target: ContextSwitchTarget,
 }
 
-#[derive(Drop)]
+#[derive(Clone, Copy)]
 pub enum ContextSwitchTarget {
     Task { task_idx: Slot, cr3: u64 },
     Idle,

@@ -6,6 +6,8 @@
 //
 // specs/ has the state and the rules as definitions, in document 01's order: they are what a reader has to believe, and what the
 // functions of the crates above are proved equal to. proofs/ has the laws that hold of them for all arguments.
+#![tactic(auto)]
+
 mod answer;
 mod call;
 

@@ -12,6 +12,8 @@
 // arguments, and ensures `Meets`: the whole answer and the whole state are what document 01's rule for it makes, and the
 // scheduler that it gives back, or leaves behind the reference, is valid again. The rules, with `Call` and `Answer` and
 // their parts, are the crate below; these types are handed on here.
+#![tactic(auto)]
+
 mod answer;
 mod lent;
 mod picking;

@@ -15,7 +15,7 @@ use rules::{
 };
 
 // How an answer tells who is to run on a core.
-#[derive(Drop)]
+#[derive(Clone, Copy)]
 pub(crate) enum Form {
     // By the slot: schedule and tick.
     Slot,

@@ -13,7 +13,7 @@ use rules::{Answer, Call, PickOption, Value};
 // What stands for none in a core's holder.
 pub const NO_HOLDER: u8 = 255;
 
-#[derive(Drop)]
+#[derive(Clone, Copy)]
 pub struct QoSScheduler {
     // A record for each slot.
     pub tasks: [TaskControlBlock; MAX_TASKS],
@@ -26,7 +26,7 @@ pub struct QoSScheduler {
 }
 
 // What a call gives back: its answer, and the state after it.
-#[derive(Drop)]
+#[derive(Clone, Copy)]
 pub struct Reply {
     pub answer: Answer,
     pub state: QoSScheduler,

@@ -1,5 +1,7 @@
 // Runs document 01's cases K1 to K11 through the scheduler and prints every answer, then what those cases do not touch:
 // plans, ends of tasks, and slots and cores of 64 and above. Some calls go by their method, some by `apply`.
+#![tactic(auto)]
+
 ghost use Rattle.scheduler.specs.Scheduler.{Valid};
 
 mod show;

@@ -11,7 +11,7 @@ use frames::{
 use scheduler::{Answer, QoSScheduler};
 
 // The scheduler after an order, and the number that is returned.
-#[derive(Drop)]
+#[derive(Clone, Copy)]
 pub(crate) struct Stood {
     pub state: QoSScheduler,
     pub returned: u64,

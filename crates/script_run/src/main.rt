@@ -10,6 +10,8 @@
 //   space       the bytes that a script works on
 //   called      what a host asks for, and what is done with the scheduler
 //   said        what an operation says
+#![tactic(auto)]
+
 ghost use Rattle.scheduler.specs.Scheduler.{Valid};
 ghost use Rattle.text.specs.Text.{Kept};
 
@@ -31,7 +33,7 @@ use words::{place_of, trimmed};
 const LINE_MAX: usize = 1024;
 
 // Where a script stands.
-#[derive(Drop)]
+#[derive(Clone, Copy)]
 struct Stand {
     state: QoSScheduler,
     // How many bytes of the space, from its front, are the image.
@@ -40,7 +42,7 @@ struct Stand {
 }
 
 // What was counted.
-#[derive(Drop)]
+#[derive(Clone, Copy)]
 struct Tally {
     lines: u64,
     operations: u64,

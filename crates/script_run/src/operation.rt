@@ -4,7 +4,7 @@ use crate::space::{behind, front, put};
 use crate::words::{NO_DIGIT, Number, digit_value, number_in, place_of};
 
 // An order: an operation, and its number and bytes.
-#[derive(Drop)]
+#[derive(Clone, Copy)]
 pub(crate) struct Order {
     pub operation: usize,
     pub number: usize,

@@ -8,7 +8,7 @@ use frames::{ANSWER_MAX, accepts_image, check_image};
 use text::Line;
 
 // A part of the space.
-#[derive(Drop)]
+#[derive(Clone, Copy)]
 struct Part {
     at: usize,
     length: usize,

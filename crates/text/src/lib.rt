@@ -3,6 +3,8 @@
 //   line    a line of text, put together piece by piece, and its way to standard output
 //   same    whether two runs of bytes are the same
 //   input   the next line of standard input
+#![tactic(auto)]
+
 mod input;
 mod line;
 mod same;

@@ -8,7 +8,7 @@ use libc::STDOUT_FILENO;
 // As many bytes as a line has room for.
 const LINE_MAX: usize = 1024;
 
-#[derive(Drop)]
+#[derive(Clone, Copy)]
 pub struct Line {
     pub bytes: [u8; LINE_MAX],
     // How many of them, from the front, are the text.

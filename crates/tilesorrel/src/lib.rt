@@ -4,6 +4,8 @@
 //
 //   frame   a frame on an image
 //   image   a first image
+#![tactic(auto)]
+
 mod frame;
 mod image;
 

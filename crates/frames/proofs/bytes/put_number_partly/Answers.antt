@@ -1,0 +1,24 @@
+use mathlib.Core.Path.{◌≡◌, refl, sym, ap, ◌∙◌}
+use mathlib.Core.Logic.{⊎_elim}
+use Prim.Native.Nat.{◌≤◌}
+use borrow.Author.Rules.{rules}
+use lib.ListN.{length}
+use lib.Seq.{sets, set_out, length-sets}
+use Rattle.frames.specs.Bytes.{bytes_of}
+use Rattle.frames.proofs.Numbers.{putting_on, putting_ended}
+use Rattle.frames.proofs.bytes.put_number_partly.Goals as goal
+
+pub loop-k-init : goal.loop-k-init
+loop-k-init c = (search rules, refl)
+
+pub loop-k-preserved : goal.loop-k-preserved
+loop-k-preserved c = (
+  search rules,
+  putting_on _ _ _ _ _ (search rules) (⊎_elim (λ w. w.1) (λ w. w.1 ∙ sym (set_out _ _ _ (search rules))) c.if-at-k.branch) ∙ c.loop-k.invariant.1,
+)
+
+pub returns : goal.returns
+returns c = sym (putting_ended _ _ _ _ c.loop-k-test.false) ∙ c.loop-k.invariant.1
+
+pub shape_of-bytes : goal.shape_of-bytes
+shape_of-bytes c = ap length (returns c) ∙ simp length-sets

@@ -1,0 +1,27 @@
+use mathlib.Core.Path.{sym, ◌∙◌}
+use mathlib.Core.Logic.{⊎_elim}
+use Prim.Native.Nat.{◌-◌}
+use borrow.Author.Rules.{rules}
+use borrow.Author.Tests.{not-true, not-false}
+use lib.ListN.{length}
+use Rattle.frames.proofs.Digits.{Testing, testing_begin, testing_on, testing_first, testing_second, testing_ended}
+use Rattle.frames.proofs.hex.is_hex.Goals as goal
+
+pub loop-k-init : goal.loop-k-init
+loop-k-init c = testing_begin _
+
+pub returns-then-not-is_digit : goal.returns-then-not-is_digit
+returns-then-not-is_digit c =
+    ⊎_elim
+    (λ w. testing_first c.loop-k.invariant c.loop-k-test.true (sym c.is_digit.ensures ∙ not-true _ w.taken))
+    (λ w. testing_second c.loop-k.invariant c.loop-k-test.true (sym w.2.ensures ∙ not-true _ w.3.taken))
+    c.if-not-is_digit.branch
+
+pub loop-k-preserved : goal.loop-k-preserved
+loop-k-preserved c =
+    testing_on c.loop-k.invariant c.loop-k-test.true
+    (sym c.is_digit.ensures ∙ not-false _ c.if-not-is_digit.false-raw)
+    (sym c.is_digit-else-not-is_digit.ensures ∙ not-false _ c.if-not-is_digit-2.false-raw)
+
+pub returns : goal.returns
+returns c = testing_ended c.loop-k.invariant c.loop-k-test.false

@@ -1,0 +1,9 @@
+-- `put_queue` meets its contract: the length, then the places behind it. Assumes nothing.
+use borrow.Author.Rules.{rules}
+use Rattle.frames.proofs.Writings.{queue_put}
+use Rattle.frames.proofs.image.put_queue.Goals as goal
+
+pub returns : goal.returns
+returns c =
+    queue_put _ c.requires.1.0 _ _ c.put_number.ensures c.len.ensures c.put_bytes.ensures
+    c.places-places.ensures

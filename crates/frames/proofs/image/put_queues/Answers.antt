@@ -1,0 +1,30 @@
+-- `put_queues` meets its contract: three queues, one behind the other. Assumes nothing.
+use native.Mathlib.Omega.{arith}
+use borrow.Author.Rules.{rules}
+use Rattle.records.specs.declared.band.QoSClass.TheVariants.{UserInteractive, RealTimeIO, Background}
+use Rattle.frames.specs.Image.{queues_place}
+use Rattle.frames.proofs.Writings.{queue_fits_lem, queues_put}
+use Rattle.frames.proofs.image.put_queues.Goals as goal
+
+pub put_queue-requires : goal.put_queue-requires
+put_queue-requires c =
+    let pre = c.requires in
+    let fits = queue_fits_lem _ pre.0 pre.1 UserInteractive _ in
+    (fits.0, (fits.1, omega arith))
+
+pub put_queue-requires-2 : goal.put_queue-requires-2
+put_queue-requires-2 c =
+    let pre = c.requires in
+    let fits = queue_fits_lem _ pre.0 pre.1 RealTimeIO _ in
+    (fits.0, (fits.1, omega arith))
+
+pub put_queue-requires-3 : goal.put_queue-requires-3
+put_queue-requires-3 c =
+    let pre = c.requires in
+    let fits = queue_fits_lem _ pre.0 pre.1 Background _ in
+    (fits.0, (fits.1, omega arith))
+
+pub returns : goal.returns
+returns c =
+    let pre = c.requires in
+    queues_put _ pre.0 pre.1 _ queues_place _ c.put_queue.ensures c.put_queue-2.ensures c.put_queue-3.ensures

@@ -1,0 +1,10 @@
+-- `crowd` meets its contract: every call leaves a valid scheduler. Assumes nothing.
+use Rattle.std.proofs.Common.{◌-◌, rules}
+use Rattle.scheduler.specs.Scheduler.{Valid}
+use Rattle.lent_run.proofs.rounds.crowd.Given as goal
+
+abbrev pub invariant-loop-slot : goal.invariant-loop-slot
+invariant-loop-slot l = Valid l.state
+
+abbrev pub decreases-loop-slot : goal.decreases-loop-slot
+decreases-loop-slot l = 64 - l.slot

@@ -1,0 +1,10 @@
+-- `BandQueue::entry_at` meets its contract: the two answers are those of `Places`. Assumes nothing.
+use borrow.Author.Rules.{rules}
+use Rattle.queue.proofs.Places.{entry_past, entry_in}
+use Rattle.queue.proofs.BandQueue.entry_at.Goals as goal
+
+pub returns-then-place-len : goal.returns-then-place-len
+returns-then-place-len c = entry_past _ _ c.if-place-len.true
+
+pub returns : goal.returns
+returns c = entry_in _ _ _ c.if-place-len.false c.slot_of.ensures

@@ -1,0 +1,12 @@
+-- `is_as_stored` meets its contract: the loop keeps that what is left is alike. Assumes nothing.
+use Rattle.std.proofs.Common.{◌≡◌, ◌-◌, length, drop, refl, inl, inr, ⊎_elim, rules, eqb-true}
+use borrow.Author.Tests.{eqb-false, not-true, not-false}
+use Rattle.replay.specs.Comparing.{as_stored}
+use Rattle.replay.proofs.Comparing.{unlike, goes_on, differs, ends, alike_by, apart_by}
+use Rattle.replay.proofs.is_as_stored.Given as goal
+
+abbrev pub invariant-loop-i : goal.invariant-loop-i
+invariant-loop-i l = as_stored (drop l.i l.answer) (drop l.i l.stored) ≡ as_stored l.answer l.stored
+
+abbrev pub decreases-loop-i : goal.decreases-loop-i
+decreases-loop-i l = length l.answer - l.i

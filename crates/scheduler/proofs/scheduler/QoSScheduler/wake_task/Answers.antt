@@ -1,0 +1,28 @@
+-- `QoSScheduler::wake_task` meets its contract: each way out cites its law. Assumes nothing.
+use Rattle.std.proofs.Common.{sym, ◌∙◌, rules}
+use borrow.Author.Tests.{not-true, not-false}
+use Rattle.scheduler.proofs.OnSlots.{wake_past, wake_free, wake_other, wake_queued, wake_held}
+use Rattle.scheduler.proofs.scheduler.QoSScheduler.wake_task.Goals as goal
+
+pub returns-then-index-ge-MAX_TASKS : goal.returns-then-index-ge-MAX_TASKS
+returns-then-index-ge-MAX_TASKS c = wake_past (search rules) c.if-index-ge-MAX_TASKS.true c.refused.ensures
+
+pub returns-then-not-task : goal.returns-then-not-task
+returns-then-not-task c = wake_free (search rules) _ (search rules) c.if-not-task.true c.refused-then-not-task.ensures
+
+pub returns-then-not-is : goal.returns-then-not-is
+returns-then-not-is c =
+    wake_other (search rules) _ (search rules) c.if-not-task.false
+    (sym c.is.ensures ∙ not-true _ c.if-not-is.true-raw) c.refused-then-not-is.ensures
+
+pub returns-then-core_holding-ge-MAX_CPUS : goal.returns-then-core_holding-ge-MAX_CPUS
+returns-then-core_holding-ge-MAX_CPUS c =
+    wake_queued (search rules) _ (search rules) c.if-not-task.false
+    (sym c.is.ensures ∙ not-false _ c.if-not-is.false-raw)
+    c.core_holding.ensures c.if-core_holding-ge-MAX_CPUS.true c.enqueue_ready.ensures
+
+pub returns : goal.returns
+returns c =
+    wake_held (search rules) _ (search rules) c.if-not-task.false
+    (sym c.is.ensures ∙ not-false _ c.if-not-is.false-raw) c.core_holding.ensures
+    c.if-core_holding-ge-MAX_CPUS.false c.with_state.ensures c.done.ensures
