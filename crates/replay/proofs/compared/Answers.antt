@@ -14,7 +14,7 @@ slice_bounds-show_difference-end c = sym (length-take-le _ _ (search rules))
 pub returns-then-not-is_as_stored : goal.returns-then-not-is_as_stored
 returns-then-not-is_as_stored c =
     let before = counts_in c.args.replay in
-    let differs = sym c.is_as_stored.ensures ∙ not-true _ c.if-not-is_as_stored.true-raw in
+    let differs = sym c.is_as_stored.ensures ∙ c.if-not-is_as_stored.true in
     record {
       valid = search rules;
       stream_is = refl;
@@ -25,7 +25,7 @@ returns-then-not-is_as_stored c =
 pub returns-else-not-is_as_stored : goal.returns-else-not-is_as_stored
 returns-else-not-is_as_stored c =
     let before = counts_in c.args.replay in
-    let alike = sym c.is_as_stored.ensures ∙ not-false _ c.if-not-is_as_stored.false-raw in
+    let alike = sym c.is_as_stored.ensures ∙ c.if-not-is_as_stored.false in
     record {
       valid = search rules;
       stream_is = refl;

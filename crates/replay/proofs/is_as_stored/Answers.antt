@@ -14,7 +14,7 @@ pub returns-then-stored-i-ne-ANY : goal.returns-then-stored-i-ne-ANY
 returns-then-stored-i-ne-ANY c =
     let answer = c.args.answer.now in
     let stored = c.args.stored.now in
-    differs answer stored c.loop-i.i (search rules) (search rules) (apart_by _ _ c.if-answer-i.true (eqb-false _ _ (not-true _ c.if-stored-i-ne-ANY.true-raw))) c.loop-i.invariant
+    differs answer stored c.loop-i.i (search rules) (search rules) (apart_by _ _ c.if-answer-i.true (eqb-false _ _ (c.if-stored-i-ne-ANY.true))) c.loop-i.invariant
 
 pub loop-i-preserved : goal.loop-i-preserved
 loop-i-preserved c =

@@ -21,4 +21,4 @@ pub returns : goal.returns
 returns c = sym (putting_ended _ _ _ _ c.loop-k-test.false) ∙ c.loop-k.invariant.1
 
 pub shape_of-bytes : goal.shape_of-bytes
-shape_of-bytes c = ap length (returns c) ∙ simp length-sets
+shape_of-bytes c = ap length ((sym (putting_ended _ _ _ _ c.loop-k-test.false) ∙ c.loop-k.invariant.1)) ∙ simp length-sets

@@ -20,8 +20,8 @@ returns-then-not-is_digit c =
 pub loop-k-preserved : goal.loop-k-preserved
 loop-k-preserved c =
     testing_on c.loop-k.invariant c.loop-k-test.true
-    (sym c.is_digit.ensures ∙ not-false _ c.if-not-is_digit.false-raw)
-    (sym c.is_digit-else-not-is_digit.ensures ∙ not-false _ c.if-not-is_digit-2.false-raw)
+    (sym c.is_digit.ensures ∙ c.if-not-is_digit.false)
+    (sym c.is_digit-else-not-is_digit.ensures ∙ c.if-not-is_digit-2.false)
 
 pub returns : goal.returns
 returns c = testing_ended c.loop-k.invariant c.loop-k-test.false

@@ -22,4 +22,4 @@ returns c =
     records_end _ c.args.tasks c.loop-slot.slot (omega (arith, c.well_formed.0.1.0.1, c.loop-slot-test.false)) ∙ c.loop-slot.invariant
 
 pub shape_of-out : goal.shape_of-out
-shape_of-out c = ap length (returns c) ∙ simp length-sets
+shape_of-out c = ap length ((records_end _ c.args.tasks c.loop-slot.slot (omega (arith, c.well_formed.0.1.0.1, c.loop-slot-test.false)) ∙ c.loop-slot.invariant)) ∙ simp length-sets

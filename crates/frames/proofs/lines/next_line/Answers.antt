@@ -15,7 +15,7 @@ pub loop-end-preserved : goal.loop-end-preserved
 loop-end-preserved c = (
   search rules,
   search rules,
-  line_on _ _ _ c.loop-end.invariant.2 c.loop-end-test.true (not-true _ c.if-input-end-ne-NEWLINE.true-raw),
+  line_on _ _ _ c.loop-end.invariant.2 c.loop-end-test.true (c.if-input-end-ne-NEWLINE.true),
 )
 
 pub returns : goal.returns

@@ -13,12 +13,12 @@ returns-then-line-gt-LINE_MAX c = sym (long-line c.args.line.now c.if-line-gt-LI
 
 pub returns-then-not-is_hex : goal.returns-then-not-is_hex
 returns-then-not-is_hex c =
-    line_unless c.args.line.now (sym c.is_hex.ensures ∙ not-true _ c.if-not-is_hex.true-raw)
+    line_unless c.args.line.now (sym c.is_hex.ensures ∙ c.if-not-is_hex.true)
 
 pub slice_bounds-read_frame-end : goal.slice_bounds-read_frame-end
 slice_bounds-read_frame-end c = sym (length-take-le _ _ (search rules))
 
 pub returns : goal.returns
 returns c =
-    c.read_frame.ensures ∙ line_when c.args.line.now (sym c.is_hex.ensures ∙ not-false _ c.if-not-is_hex.false-raw)
+    c.read_frame.ensures ∙ line_when c.args.line.now (sym c.is_hex.ensures ∙ c.if-not-is_hex.false)
     (read_back c.args.line.now _ c.from_hex.ensures (omega (arith, c.if-line-gt-LINE_MAX.false)))

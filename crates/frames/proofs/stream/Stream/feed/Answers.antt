@@ -22,7 +22,7 @@ overflow_add-end c =
 -- the line is not at its end
 pub returns-then-not-is_ended : goal.returns-then-not-is_ended
 returns-then-not-is_ended c =
-    stops_open c.loop-held.invariant c.next_line-line.ensures (sym c.is_ended.ensures ∙ not-true _ c.if-not-is_ended.true-raw)
+    stops_open c.loop-held.invariant c.next_line-line.ensures (sym c.is_ended.ensures ∙ c.if-not-is_ended.true)
     c.stopped.ensures
 
 -- ---- a line that is no frame
@@ -30,7 +30,7 @@ returns-then-not-is_ended c =
 pub returns-then-size-eq0 : goal.returns-then-size-eq0
 returns-then-size-eq0 c =
     let now = c.loop-held.invariant in
-    stops_full now c.next_line-line.ensures (sym c.is_ended.ensures ∙ not-false _ c.if-not-is_ended.false-raw)
+    stops_full now c.next_line-line.ensures (sym c.is_ended.ensures ∙ c.if-not-is_ended.false)
     (makes_refusal (sym c.call_of.ensures ∙ c.in_default.is) now.valid) c.put_no_frame-size.ensures c.if-size-eq0.true
     c.stopped-then-size-eq0.ensures
 
@@ -48,13 +48,13 @@ overflow_add-written c =
 
 pub loop-held-smaller-in_default : goal.loop-held-smaller-in_default
 loop-held-smaller-in_default c =
-    less c.loop-held.invariant c.next_line-line.ensures (sym c.is_ended.ensures ∙ not-false _ c.if-not-is_ended.false-raw)
+    less c.loop-held.invariant c.next_line-line.ensures (sym c.is_ended.ensures ∙ c.if-not-is_ended.false)
     c.past_newline-used.ensures
 
 pub loop-held-preserved-in_default : goal.loop-held-preserved-in_default
 loop-held-preserved-in_default c =
     let now = c.loop-held.invariant in
-    turn now c.next_line-line.ensures (sym c.is_ended.ensures ∙ not-false _ c.if-not-is_ended.false-raw)
+    turn now c.next_line-line.ensures (sym c.is_ended.ensures ∙ c.if-not-is_ended.false)
     (makes_refusal (sym c.call_of.ensures ∙ c.in_default.is) now.valid) c.put_no_frame-size.ensures c.past_newline-used.ensures
     c.if-size-eq0.false
 
@@ -68,7 +68,7 @@ shape_of-out-then-size-eq0-2 c =
 
 pub returns-then-size-eq0-2 : goal.returns-then-size-eq0-2
 returns-then-size-eq0-2 c =
-    stops_full c.loop-held.invariant c.next_line-line.ensures (sym c.is_ended.ensures ∙ not-false _ c.if-not-is_ended.false-raw)
+    stops_full c.loop-held.invariant c.next_line-line.ensures (sym c.is_ended.ensures ∙ c.if-not-is_ended.false)
     (makes_reply (sym c.call_of.ensures ∙ c.in-Some.is) c.apply-reply.ensures) c.put_answer-size.ensures c.if-size-eq0-2.true
     c.stopped-then-size-eq0-2.ensures
 
@@ -86,11 +86,11 @@ overflow_add-written-in-loop-held c =
 
 pub loop-held-smaller : goal.loop-held-smaller
 loop-held-smaller c =
-    less c.loop-held.invariant c.next_line-line.ensures (sym c.is_ended.ensures ∙ not-false _ c.if-not-is_ended.false-raw)
+    less c.loop-held.invariant c.next_line-line.ensures (sym c.is_ended.ensures ∙ c.if-not-is_ended.false)
     c.past_newline-used-in-loop-held.ensures
 
 pub loop-held-preserved : goal.loop-held-preserved
 loop-held-preserved c =
-    turn c.loop-held.invariant c.next_line-line.ensures (sym c.is_ended.ensures ∙ not-false _ c.if-not-is_ended.false-raw)
+    turn c.loop-held.invariant c.next_line-line.ensures (sym c.is_ended.ensures ∙ c.if-not-is_ended.false)
     (makes_reply (sym c.call_of.ensures ∙ c.in-Some.is) c.apply-reply.ensures) c.put_answer-size.ensures c.past_newline-used-in-loop-held.ensures
     c.if-size-eq0-2.false

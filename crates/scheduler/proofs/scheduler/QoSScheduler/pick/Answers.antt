@@ -9,7 +9,7 @@ use Rattle.scheduler.proofs.Arrays.{ring_below}
 use Rattle.scheduler.proofs.scheduler.QoSScheduler.pick.Goals as goal
 
 pub loop-band-init : goal.loop-band-init
-loop-band-init c = (refl, (c.requires.0, seeking_first _ _))
+loop-band-init c = (refl, (c.requires.valid, seeking_first _ _))
 
 pub entry_at-entry-requires : goal.entry_at-entry-requires
 entry_at-entry-requires c = ring_below _ c.loop-band.invariant.1.0.whole _ _ (search rules)
@@ -36,7 +36,7 @@ take_at-taken-requires c =
     ring_below _ c.loop-band.invariant.1.0.whole _ _ (search rules)
 
 pub bounds-self-index-then-mask_permits : goal.bounds-self-index-then-mask_permits
-bounds-self-index-then-mask_permits c = bounds-self-index c
+bounds-self-index-then-mask_permits c = let inv = c.loop-band.invariant in entry_low inv.1.0 inv.1.1 c.loop-band-test.true _ c.entry_at-entry.ensures _ c.in-Some.is
 
 pub returns-then-mask_permits : goal.returns-then-mask_permits
 returns-then-mask_permits c =
@@ -44,7 +44,7 @@ returns-then-mask_permits c =
     gives_as c.args.form refl (ap (λ (s : QoSScheduler). rule_p c.args.core (abs s)) inv.0) (pick_found inv.1.0 inv.1.1
     c.loop-band-test.true _
     c.entry_at-entry.ensures _ c.in-Some.is _ c.mask_permits.ensures
-    c.args.form c.args.previous c.requires.1 c.if-mask_permits.true
+    c.args.form c.args.previous c.requires.core_bound c.if-mask_permits.true
     c.take_at-taken.ensures c.picked.ensures c.pick_answer.ensures)
 
 pub loop-band-smaller : goal.loop-band-smaller
@@ -72,17 +72,19 @@ pub returns : goal.returns
 returns c =
     let inv = c.loop-band.invariant in
     gives_as c.args.form refl (ap (λ (s : QoSScheduler). rule_p c.args.core (abs s)) inv.0)
-    (pick_none inv.1.0 c.args.form c.args.previous c.requires.1 inv.1.1 c.loop-band-test.false
+    (pick_none inv.1.0 c.args.form c.args.previous c.requires.core_bound inv.1.1 c.loop-band-test.false
     c.choice_answer.ensures)
 
 pub offset_bounds-self-index : goal.offset_bounds-self-index
-offset_bounds-self-index c = omega (arith, bounds-self-index c)
+offset_bounds-self-index c = omega (arith, (let inv = c.loop-band.invariant in entry_low inv.1.0 inv.1.1 c.loop-band-test.true _ c.entry_at-entry.ensures _ c.in-Some.is))
 
 pub offset_bounds-self-index-then-mask_permits : goal.offset_bounds-self-index-then-mask_permits
-offset_bounds-self-index-then-mask_permits c = omega (arith, bounds-self-index-then-mask_permits c)
+offset_bounds-self-index-then-mask_permits c = omega (arith, ((let inv = c.loop-band.invariant in entry_low inv.1.0 inv.1.1 c.loop-band-test.true _ c.entry_at-entry.ensures _ c.in-Some.is)))
 
 pub overflow_cast-self : goal.overflow_cast-self
-overflow_cast-self c = omega (arith, bounds-self-index-then-mask_permits c)
+overflow_cast-self c = omega (arith, ((let inv = c.loop-band.invariant in entry_low inv.1.0 inv.1.1 c.loop-band-test.true _ c.entry_at-entry.ensures _ c.in-Some.is)))
 
 pub overflow_add-place : goal.overflow_add-place
-overflow_add-place c = omega (arith, loop-band-smaller c)
+overflow_add-place c =
+    let inv = c.loop-band.invariant in
+    omega (arith, place_low inv.1.0 inv.1.1 c.loop-band-test.true _ c.entry_at-entry.ensures _ c.in-Some.is)

@@ -19,7 +19,7 @@ bounds-self-index c =
 
 pub pick-requires : goal.pick-requires
 pick-requires c =
-    (let_go-valid c.requires c.if-core-ge-MAX_CPUS.false, c.if-core-ge-MAX_CPUS.false)
+    record { valid = let_go-valid c.requires c.if-core-ge-MAX_CPUS.false; core_bound = c.if-core-ge-MAX_CPUS.false }
 
 pub returns-in-Running : goal.returns-in-Running
 returns-in-Running c =
@@ -42,4 +42,4 @@ returns-in-Terminated c =
     c.in-Some.is _ c.in-Terminated.is c.refused-in-Terminated.ensures
 
 pub offset_bounds-self-index : goal.offset_bounds-self-index
-offset_bounds-self-index c = omega (arith, bounds-self-index c)
+offset_bounds-self-index c = omega (arith, (holder_below c.requires c.if-core-ge-MAX_CPUS.false _ c.holder_of-previous.ensures c.in-Some.is))

@@ -21,33 +21,33 @@ bounds-self-index c =
 pub returns-then-not-is : goal.returns-then-not-is
 returns-then-not-is c =
     yield_idle (search rules) (search rules) _ c.holder_of-previous.ensures _ c.in-Some.is _
-    (sym c.is.ensures ∙ not-true _ c.if-not-is.true-raw) c.refused-then-not-is.ensures
+    (sym c.is.ensures ∙ c.if-not-is.true) c.refused-then-not-is.ensures
 
 pub push-pushed-requires : goal.push-pushed-requires
 push-pushed-requires c =
     ring_below _ c.requires.whole _ _ (search rules)
 
 pub bounds-self-index-2 : goal.bounds-self-index-2
-bounds-self-index-2 c = bounds-self-index c
+bounds-self-index-2 c = holder_below c.requires c.if-core-ge-MAX_CPUS.false _ c.holder_of-previous.ensures c.in-Some.is
 
 pub pick-requires-2 : goal.pick-requires-2
-pick-requires-2 c = (
-  sent_back_valid c.requires c.if-core-ge-MAX_CPUS.false _
+pick-requires-2 c = record {
+  valid = sent_back_valid c.requires c.if-core-ge-MAX_CPUS.false _
       c.holder_of-previous.ensures _ c.in-Some.is _
-      (sym c.is.ensures ∙ not-false _ c.if-not-is.false-raw)
-      c.code-band.ensures _ c.push-pushed.ensures c.with_state.ensures,
-  c.if-core-ge-MAX_CPUS.false,
-)
+      (sym c.is.ensures ∙ c.if-not-is.false)
+      c.code-band.ensures _ c.push-pushed.ensures c.with_state.ensures;
+  core_bound = c.if-core-ge-MAX_CPUS.false;
+}
 
 pub returns : goal.returns
 returns c =
     yield_running_lem c.requires c.if-core-ge-MAX_CPUS.false _ c.holder_of-previous.ensures _
-    c.in-Some.is _ (sym c.is.ensures ∙ not-false _ c.if-not-is.false-raw)
+    c.in-Some.is _ (sym c.is.ensures ∙ c.if-not-is.false)
     c.code-band.ensures _ c.push-pushed.ensures
     c.with_state.ensures c.pick-2.ensures
 
 pub offset_bounds-self-index : goal.offset_bounds-self-index
-offset_bounds-self-index c = omega (arith, bounds-self-index c)
+offset_bounds-self-index c = omega (arith, (holder_below c.requires c.if-core-ge-MAX_CPUS.false _ c.holder_of-previous.ensures c.in-Some.is))
 
 pub offset_bounds-self-index-2 : goal.offset_bounds-self-index-2
-offset_bounds-self-index-2 c = omega (arith, bounds-self-index-2 c)
+offset_bounds-self-index-2 c = omega (arith, ((holder_below c.requires c.if-core-ge-MAX_CPUS.false _ c.holder_of-previous.ensures c.in-Some.is)))

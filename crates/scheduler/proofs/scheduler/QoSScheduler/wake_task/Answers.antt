@@ -13,16 +13,16 @@ returns-then-not-task c = wake_free (search rules) _ (search rules) c.if-not-tas
 pub returns-then-not-is : goal.returns-then-not-is
 returns-then-not-is c =
     wake_other (search rules) _ (search rules) c.if-not-task.false
-    (sym c.is.ensures ∙ not-true _ c.if-not-is.true-raw) c.refused-then-not-is.ensures
+    (sym c.is.ensures ∙ c.if-not-is.true) c.refused-then-not-is.ensures
 
 pub returns-then-core_holding-ge-MAX_CPUS : goal.returns-then-core_holding-ge-MAX_CPUS
 returns-then-core_holding-ge-MAX_CPUS c =
     wake_queued (search rules) _ (search rules) c.if-not-task.false
-    (sym c.is.ensures ∙ not-false _ c.if-not-is.false-raw)
+    (sym c.is.ensures ∙ c.if-not-is.false)
     c.core_holding.ensures c.if-core_holding-ge-MAX_CPUS.true c.enqueue_ready.ensures
 
 pub returns : goal.returns
 returns c =
     wake_held (search rules) _ (search rules) c.if-not-task.false
-    (sym c.is.ensures ∙ not-false _ c.if-not-is.false-raw) c.core_holding.ensures
+    (sym c.is.ensures ∙ c.if-not-is.false) c.core_holding.ensures
     c.if-core_holding-ge-MAX_CPUS.false c.with_state.ensures c.done.ensures
