@@ -4,7 +4,9 @@
 
 ghost use Rattle.queue.specs.Stored.{WellFormed};
 
-use libc::STDOUT_FILENO;
+// The file descriptor of standard output.
+const STDOUT_FILENO: i32 = 1;
+
 use queue::{BandQueue, Pushed, Taken};
 use records::{MAX_TASKS, Slot, SlotOption};
 
