@@ -1,7 +1,7 @@
 -- How the functions of src/accept.rt meet their contracts: what the code reads in an image's bytes is what the image's state has, and a law for each
 -- way out: of slots, cores and queues, and of the whole image. Assumes nothing.
 use mathlib.Core.Path.{◌≡◌, sym, ap, ◌∙◌}
-use mathlib.Core.Bool.{Bool, true, false, not, ◌&&◌, and_false, and-true, and_assoc, and_comm}
+use mathlib.Core.Bool.{Bool, true, false, not, ◌&&◌, and-false, and-true, and_assoc, and_comm}
 use mathlib.Core.Logic.Iff
 use mathlib.Core.List.{List}
 use Prim.Native.Nat.{ℕ, zero, suc, ◌+◌, ◌-◌, ◌≤◌, ◌<◌}
@@ -160,7 +160,7 @@ module _ (image : List ℕ) where
 
   pub bands_second : {b : Bool} → b ≡ band_fits image RealTimeIO → not b ≡ true → false ≡ queues
   unfolding every
-  bands_second e h = sym (rw (fails e h, and_false))
+  bands_second e h = sym (rw (fails e h, and-false))
 
   pub bands_third : {a b c : Bool} → a ≡ band_fits image UserInteractive → not a ≡ false → b ≡ band_fits image RealTimeIO → not b ≡ false →
       c ≡ band_fits image Background → c ≡ queues
@@ -201,7 +201,7 @@ module _ (image : List ℕ) where
     accepts_queues e h = sym (accepts_is ∙ rw (fails e h))
 
     pub accepts_slots : {r : Bool} → r ≡ slots && once → not r ≡ true → false ≡ accepts_image image
-    accepts_slots e h = sym (accepts_is ∙ rw (fails e h, and_false))
+    accepts_slots e h = sym (accepts_is ∙ rw (fails e h, and-false))
 
     pub accepts_rest : {a b r : Bool} → a ≡ queues → not a ≡ false → b ≡ slots && once → not b ≡ false → r ≡ cores → r ≡ accepts_image image
     accepts_rest a ha b hb r = r ∙ sym (accepts_is ∙ rw (holds a ha, holds b hb))

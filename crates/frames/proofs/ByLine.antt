@@ -1,5 +1,5 @@
 -- A block taken line by line, as the code goes: what its first line makes of a stream, and then what comes behind it (`fed_line`). Assumes nothing.
-use mathlib.Core.Bool.{Bool, true, false, cond, ◌&&◌, ◌||◌, and_false}
+use mathlib.Core.Bool.{Bool, true, false, cond, ◌&&◌, ◌||◌, and-false}
 use mathlib.Core.List.{List, [], ◌∷◌, ◌++◌, append_assoc, append-nil}
 use mathlib.Core.Path.{◌≡◌, refl, sym, ap, ◌∙◌}
 use Prim.Native.Nat.{ℕ, suc, ◌+◌, ◌-◌, ◌≤◌, ◌<◌, min}
@@ -94,7 +94,7 @@ module _ (last : Bool) (room : ℕ) (s : State) where
       split (λ (due : Bool). cond due (ended room s held none) (waits false s held) ≡ by_parts due held 0 0 []) (last && some held)
       (λ _.
       ap (λ (due : Bool). cond (leb (length (answer_to held s)) room) (onward (answer_to held s) 0 (cond due one_more none)) (waits true s held))
-      (sym (and_false last)))
+      (sym (and-false last)))
       (λ _. refl)
     where
       none : FedSoFar

@@ -1,7 +1,7 @@
 -- Lower-case hexadecimal: what digits stand for, the round trip from bytes to digits and back, lengths, and what the loops that test, read and
 -- store digits need. Assumes nothing.
 use mathlib.Core.Path.{◌≡◌, refl, sym, ap, ◌∙◌}
-use mathlib.Core.Bool.{Bool, true, false, ◌&&◌, and-eq-true_iff, and_false}
+use mathlib.Core.Bool.{Bool, true, false, ◌&&◌, and-eq-true_iff, and-false}
 use mathlib.Core.Logic.Iff
 use mathlib.Core.List.{List, [], ◌∷◌}
 use Prim.Native.Nat.{ℕ, suc, ◌+◌, ◌-◌, ◌*◌, ◌/◌, ◌%◌, ◌≤◌, ◌<◌}
@@ -109,7 +109,7 @@ module _ {line : List ℕ} {k : ℕ} (so : Testing line k) (h : k + 1 < length l
   testing_first d = sym (two_and_rest ∙ rw d)
 
   pub testing_second : is_digit (get_or line (k + 1) 0) ≡ false → false ≡ is_hex line
-  testing_second e = sym (two_and_rest ∙ rw (e, and_false))
+  testing_second e = sym (two_and_rest ∙ rw (e, and-false))
 
 -- none is left over, or one
 is_hex-short : (rest : List ℕ) → length rest ≤ 1 → is_hex rest ≡ eqb (length rest) 0

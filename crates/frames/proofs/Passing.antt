@@ -1,6 +1,6 @@
 -- Loops that test every number below 64, one that sums bytes which are to be 0, and a test that a call answered. Assumes nothing.
 use mathlib.Core.Path.{◌≡◌, refl, sym, ap, subst, ◌∙◌}
-use mathlib.Core.Bool.{Bool, true, false, not, ◌&&◌, and_false, and-true, and_assoc, and_comm}
+use mathlib.Core.Bool.{Bool, true, false, not, ◌&&◌, and-false, and-true, and_assoc, and_comm}
 use mathlib.Core.List.{List, [], ◌∷◌, ◌++◌}
 use Prim.Native.Nat.{ℕ, zero, suc, ◌+◌, ◌≤◌, ◌<◌}
 use native.Mathlib.Nat.{zero-add}
@@ -38,7 +38,7 @@ unfolding every_below
 fails-below zero k test h e = absurd (omega arith)
 fails-below (suc n) k test h e =
     split (λ _. every_below (suc n) test ≡ false) (ltb k n)
-    (λ low. rw (fails-below n k test (ltb-true k n low) e, and_false))
+    (λ low. rw (fails-below n k test (ltb-true k n low) e, and-false))
     (λ high. let last : n ≡ k = omega (arith, ltb-false k n high) in rw (last, e))
 
 module _ {test : ℕ → Bool} {k : ℕ} (so : Passing test k) where
@@ -58,7 +58,7 @@ module _ {a b : ℕ → Bool} {k : ℕ} (so : Passing a k × Passing b k) where
   first_failed h is fail = ap (λ (t : Bool). t && every_below 64 b) (passing_failed so.0 h is fail)
 
   pub second_failed : {r : Bool} → k < 64 → r ≡ b k → not r ≡ true → false ≡ every_below 64 a && every_below 64 b
-  second_failed h is fail = sym (and_false (every_below 64 a)) ∙ ap (λ (t : Bool). every_below 64 a && t) (passing_failed so.1 h is fail)
+  second_failed h is fail = sym (and-false (every_below 64 a)) ∙ ap (λ (t : Bool). every_below 64 a && t) (passing_failed so.1 h is fail)
 
   pub both_ended : 64 ≤ k → true ≡ every_below 64 a && every_below 64 b
   both_ended h = λ i. passing_ended so.0 h i && passing_ended so.1 h i
@@ -77,7 +77,7 @@ zero_snoc (a ∷ bytes) b =
 -- a sum is 0 where both its parts are
 sum_zero : (a b : ℕ) → eqb (a + b) 0 ≡ eqb b 0 && eqb a 0
 sum_zero zero b = rw (zero-add b, and-true)
-sum_zero (suc a) b = ne_eqb (suc a + b) 0 (λ e. omega (arith, e)) ∙ sym (rw (ne_eqb (suc a) 0 (λ e. omega (arith, e)), and_false))
+sum_zero (suc a) b = ne_eqb (suc a + b) 0 (λ e. omega (arith, e)) ∙ sym (rw (ne_eqb (suc a) 0 (λ e. omega (arith, e)), and-false))
 
 pub zeros_begin : (bytes : List ℕ) → eqb 0 0 ≡ all_zero (take 0 bytes)
 unfolding every

@@ -1,7 +1,7 @@
 -- What the 47 bytes of a record say: the numbers that the code reads are the fields of the record that they stand for, and each way out of the
 -- tests of a record. Where a number stands in a record is layout.rt's table. Assumes nothing.
 use mathlib.Core.Path.{◌≡◌, refl, sym, ap, ◌∙◌}
-use mathlib.Core.Bool.{Bool, true, false, not, ◌&&◌, ◌||◌, beq, and_false}
+use mathlib.Core.Bool.{Bool, true, false, not, ◌&&◌, ◌||◌, beq, and-false}
 use mathlib.Core.List.{List}
 use Prim.Native.Nat.{ℕ, ◌≤◌, ◌<◌}
 use native.Mathlib.Omega.{arith}
@@ -73,7 +73,7 @@ module _ {bytes : List ℕ} where
   codes_band n h = sym (rw (le-ltb (number_at 4 1 bytes) 3 (omega (arith, n.is))))
 
   pub codes_state : {s : ℕ} → IsNumber 5 1 bytes s → 3 < s → false ≡ codes_fit bytes
-  codes_state n h = sym (rw (le-ltb (number_at 5 1 bytes) 4 (omega (arith, n.is)), and_false))
+  codes_state n h = sym (rw (le-ltb (number_at 5 1 bytes) 4 (omega (arith, n.is)), and-false))
 
   pub codes_rest : {b s u : ℕ} → IsNumber 4 1 bytes b → b ≤ 2 → IsNumber 5 1 bytes s → s ≤ 3 → IsNumber 46 1 bytes u → ltb u 2 ≡ codes_fit bytes
   codes_rest b hb s hs u =
@@ -107,10 +107,10 @@ module _ (bytes : List ℕ) where
   use_is u e = rw (sym u, sym e, same-is_not)
 
   pub record_use : {u e : Bool} → u ≡ t.in_use → e ≡ is_state t.state Terminated → beq u e ≡ true → false ≡ fits
-  record_use u e h = sym (rw (use_is u e ∙ ap not h, and_false))
+  record_use u e h = sym (rw (use_is u e ∙ ap not h, and-false))
 
   pub record_mask : {m : ℕ} → IsNumber 30 8 bytes m → m ≡ 0 → false ≡ fits
-  record_mask m h = sym (rw (eq-eqb t.cpu_affinity 0 (sym (mask_is m) ∙ h), and_false, and_false))
+  record_mask m h = sym (rw (eq-eqb t.cpu_affinity 0 (sym (mask_is m) ∙ h), and-false, and-false))
 
   -- a budget b, tested with the slice s
   module _ {b s : ℕ} {r : Bool} (budget : IsNumber 38 4 bytes b) (size : s ≡ slice t.qos) (is : r ≡ eqb b 0 || eqb b s) where
@@ -118,7 +118,7 @@ module _ (bytes : List ℕ) where
     budget_fits = sym (is ∙ rw (budget_is budget, size))
 
     pub record_budget : not r ≡ true → false ≡ fits
-    record_budget h = sym (rw (budget_fits ∙ not-true r h, and_false, and_false))
+    record_budget h = sym (rw (budget_fits ∙ not-true r h, and-false, and-false))
 
     pub record_rest : {c u e : Bool} {m n : ℕ} → c ≡ codes_fit bytes → not c ≡ false →
         u ≡ t.in_use → e ≡ is_state t.state Terminated → beq u e ≡ false →

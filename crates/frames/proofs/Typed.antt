@@ -46,7 +46,7 @@ typed_record t vs (_, (_, (tid, (_, (_, (_, (context, (cr3, (rsp0, (mask, (budge
 )
 
 typed_records : (ts : List TaskControlBlock) (vs : List Val) →
-    shadow (each (block.the_field).row.Denot (block.the_field).row.own_val (map (block.the_type).to ts) vs) → Each FitsRecord ts
+    shadow (each (block.the_row).Denot (block.the_row).own_val ts vs) → Each FitsRecord ts
 unfolding Each
 typed_records [] vs p = tt
 typed_records (t ∷ ts) [] p = absurd p

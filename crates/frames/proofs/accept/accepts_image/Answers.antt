@@ -13,7 +13,10 @@ returns-then-not-bands_fit c =
 
 pub slots_fit-requires : goal.slots_fit-requires
 slots_fit-requires c =
-    (c.if-image-ne-IMAGE_BYTES.false, lengths_fit c.args.image.now c.bands_fit.ensures c.if-not-bands_fit.false-raw)
+    record {
+      image_len = c.if-image-ne-IMAGE_BYTES.false;
+      lengths_fit = lengths_fit c.args.image.now c.bands_fit.ensures c.if-not-bands_fit.false-raw;
+    }
 
 pub returns-then-not-slots_fit : goal.returns-then-not-slots_fit
 returns-then-not-slots_fit c =

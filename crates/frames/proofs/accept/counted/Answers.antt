@@ -16,7 +16,7 @@ loop-place-init c =
 
 pub overflow_add-counts : goal.overflow_add-counts
 overflow_add-counts c =
-    let most = c.requires.1.1 in
+    let most = c.requires.at_most in
     omega (arith, counting_room c.loop-place.invariant.1 c.slot_byte-slot.result most (search rules) c.if-slot-lt-MAX_TASKS.true)
 
 pub loop-place-preserved-then-slot-lt-MAX_TASKS : goal.loop-place-preserved-then-slot-lt-MAX_TASKS

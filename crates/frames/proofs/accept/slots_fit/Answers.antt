@@ -10,19 +10,31 @@ use Rattle.frames.proofs.accept.slots_fit.Goals as goal
 
 pub counted-first-requires : goal.counted-first-requires
 counted-first-requires c =
-    (c.requires.0, (c.requires.1 UserInteractive, first_most c.args.image.now c.requires.1))
+    record {
+      image_len = c.requires.image_len;
+      image_bound = c.requires.lengths_fit UserInteractive;
+      at_most = first_most c.args.image.now c.requires.lengths_fit;
+    }
 
 pub counted-second-requires : goal.counted-second-requires
 counted-second-requires c =
-    (c.requires.0, (c.requires.1 RealTimeIO, second_most c.args.image.now c.requires.1 c.counted-first.ensures))
+    record {
+      image_len = c.requires.image_len;
+      image_bound = c.requires.lengths_fit RealTimeIO;
+      at_most = second_most c.args.image.now c.requires.lengths_fit c.counted-first.ensures;
+    }
 
 pub counted-counts-requires : goal.counted-counts-requires
 counted-counts-requires c =
-    (c.requires.0, (c.requires.1 Background, third_most c.args.image.now c.requires.1 c.counted-first.ensures c.counted-second.ensures))
+    record {
+      image_len = c.requires.image_len;
+      image_bound = c.requires.lengths_fit Background;
+      at_most = third_most c.args.image.now c.requires.lengths_fit c.counted-first.ensures c.counted-second.ensures;
+    }
 
 pub loop-slot-init : goal.loop-slot-init
 loop-slot-init c = (
-  counts_are c.args.image.now c.requires.1 c.counted-first.ensures c.counted-second.ensures c.counted-counts.ensures,
+  counts_are c.args.image.now c.requires.lengths_fit c.counted-first.ensures c.counted-second.ensures c.counted-counts.ensures,
   (passing_begin _, passing_begin _),
 )
 

@@ -7,6 +7,7 @@ use lib.Seq.{sets, set_out, length-sets}
 use Rattle.frames.specs.Bytes.{bytes_of}
 use Rattle.frames.proofs.Numbers.{putting_on, putting_ended}
 use Rattle.frames.proofs.bytes.put_number_partly.Goals as goal
+use Rattle.frames.proofs.bytes.put_number_partly.Goals.{then-at-k, else-at-k}
 
 pub loop-k-init : goal.loop-k-init
 loop-k-init c = (search rules, refl)
@@ -14,7 +15,8 @@ loop-k-init c = (search rules, refl)
 pub loop-k-preserved : goal.loop-k-preserved
 loop-k-preserved c = (
   search rules,
-  putting_on _ _ _ _ _ (search rules) (⊎_elim (λ w. w.1) (λ w. w.1 ∙ sym (set_out _ _ _ (search rules))) c.if-at-k.branch) ∙ c.loop-k.invariant.1,
+  putting_on _ _ _ _ _ (search rules)
+      (elim c.if-at-k.branch [ then-at-k w ↦ w.bytes-is | else-at-k w ↦ w.bytes-is ∙ sym (set_out _ _ _ (search rules)) ]) ∙ c.loop-k.invariant.1,
 )
 
 pub returns : goal.returns

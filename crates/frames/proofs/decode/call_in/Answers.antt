@@ -62,4 +62,4 @@ pub returns-in-16 : goal.returns-in-16
 returns-in-16 c = entry c.args.frame.now 16 c.in-16.is (λ i. Some (Holder (c.slot_in-in-16.ensures i)))
 
 pub returns-in-17-to-255 : goal.returns-in-17-to-255
-returns-in-17-to-255 c = no_entry c.args.frame.now c.args.call (none_below 17 c.args.call c.in-0.rest)
+returns-in-17-to-255 c = no_entry c.args.frame.now c.args.call (search rules)

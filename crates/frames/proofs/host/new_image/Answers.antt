@@ -14,5 +14,5 @@ returns-then-write_image c =
 
 pub returns-else-write_image : goal.returns-else-write_image
 returns-else-write_image c =
-    (λ i. first_image (c.refused.ensures i) c.write_image.new.1.0)
+    (λ i. first_image (c.refused.ensures i) c.write_image.new.image)
     ∙ new_made c.new.ensures.state_is c.write_image.ensures c.if-write_image.false

@@ -21,7 +21,7 @@ returns-in_default c =
 pub returns-in-Refused : goal.returns-in-Refused
 returns-in-Refused c =
     let a = c.args in
-    ap (λ n. hosted n c.call_on_image.new.0 a.answer.now) c.refused-in-Refused.ensures
+    ap (λ n. hosted n c.call_on_image.new.image a.answer.now) c.refused-in-Refused.ensures
     ∙ step_refused a.image.now a.frame.now a.answer.now c.if-answer-lt-ANSWER_MAX.false c.read_frame.ensures c.in-Some.is
     c.call_on_image.ensures c.in-Refused.is
 

@@ -5,5 +5,5 @@ use Rattle.frames.proofs.image.put_queue.Goals as goal
 
 pub returns : goal.returns
 returns c =
-    queue_put _ c.requires.1.0 _ _ c.put_number.ensures c.len.ensures c.put_bytes.ensures
+    queue_put _ c.requires.queue_len_bound _ _ c.put_number.ensures c.len.ensures c.put_bytes.ensures
     c.places-places.ensures

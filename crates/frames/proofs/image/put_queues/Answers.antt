@@ -9,22 +9,22 @@ use Rattle.frames.proofs.image.put_queues.Goals as goal
 pub put_queue-requires : goal.put_queue-requires
 put_queue-requires c =
     let pre = c.requires in
-    let fits = queue_fits_lem _ pre.0 pre.1 UserInteractive _ in
-    (fits.0, (fits.1, omega arith))
+    let fits = queue_fits_lem _ pre.whole pre.short UserInteractive _ in
+    record { well_formed = fits.0; queue_len_bound = fits.1; queue_length_bound = omega arith }
 
 pub put_queue-requires-2 : goal.put_queue-requires-2
 put_queue-requires-2 c =
     let pre = c.requires in
-    let fits = queue_fits_lem _ pre.0 pre.1 RealTimeIO _ in
-    (fits.0, (fits.1, omega arith))
+    let fits = queue_fits_lem _ pre.whole pre.short RealTimeIO _ in
+    record { well_formed = fits.0; queue_len_bound = fits.1; queue_length_bound = omega arith }
 
 pub put_queue-requires-3 : goal.put_queue-requires-3
 put_queue-requires-3 c =
     let pre = c.requires in
-    let fits = queue_fits_lem _ pre.0 pre.1 Background _ in
-    (fits.0, (fits.1, omega arith))
+    let fits = queue_fits_lem _ pre.whole pre.short Background _ in
+    record { well_formed = fits.0; queue_len_bound = fits.1; queue_length_bound = omega arith }
 
 pub returns : goal.returns
 returns c =
     let pre = c.requires in
-    queues_put _ pre.0 pre.1 _ queues_place _ c.put_queue.ensures c.put_queue-2.ensures c.put_queue-3.ensures
+    queues_put _ pre.whole pre.short _ queues_place _ c.put_queue.ensures c.put_queue-2.ensures c.put_queue-3.ensures

@@ -15,7 +15,7 @@ returns-then-image-ne-IMAGE_BYTES c =
 pub put_queues-requires : goal.put_queues-requires
 put_queues-requires c =
     let valid = c.requires in
-    (valid.whole, queues_short _ valid)
+    record { whole = valid.whole; short = queues_short _ valid }
 
 pub put_bytes-requires : goal.put_bytes-requires
 put_bytes-requires c =

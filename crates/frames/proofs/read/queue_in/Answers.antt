@@ -11,4 +11,4 @@ returns c =
     let at = c.queue_at-at.result + 1 in
     let wide : at + 64 - at ≡ 64 = omega arith in
     queue_holds _ c.requires c.args.band _ c.queue_at-at.ensures.0 wide (search rules) c.put_bytes.ensures
-    c.length_byte.ensures c.from_Places.ensures
+    c.length_byte.ensures c.from_places.ensures

@@ -14,8 +14,8 @@ use Rattle.frames.proofs.Tellings.{makes_refusal, makes_reply}
 use Rattle.frames.proofs.stream.Stream.feed.Given as goal
 
 abbrev pub invariant-loop-held : goal.invariant-loop-held
-invariant-loop-held l = 
-    Going l.last (record { l.state = l.initial.state; l.held = l.held; l.len = l.initial.len }) l.block l.initial.out l.out l.state l.len l.used l.written
+invariant-loop-held l =
+    Going l.last (record { state = l.initial.state; held = l.held; len = l.initial.len }) l.block l.initial.out l.out l.state l.len l.used l.written
 
 abbrev pub decreases-loop-held : goal.decreases-loop-held
 decreases-loop-held l = length l.block - l.used + l.len
