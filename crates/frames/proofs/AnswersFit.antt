@@ -27,7 +27,6 @@ use Rattle.rules.specs.declared.answer.TaskOption.{TaskOption}
 use Rattle.rules.specs.declared.answer.Value.{Value}
 use Rattle.rules.specs.declared.answer.Value.TheVariants as value
 use Rattle.rules.specs.declared.call.Call.{Call}
-use Rattle.rules.specs.declared.call.Call.TheVariants.{Plan, Task}
 use Rattle.rules.specs.Accepted.{Accepted}
 use Rattle.rules.specs.Outcome.{Outcome, Chosen, answered, refusal}
 use Rattle.rules.specs.Paper.{paper, status_number, pick_numbers, slot_number, core_number, target_numbers, value_numbers}

@@ -8,7 +8,6 @@ use borrow.Author.Tests.{eq-eqb, ne_eqb, not-true, not-false}
 use lib.Dec.{eqb}
 use lib.ListN.{length}
 use Rattle.records.proofs.Cases.{split}
-use Rattle.rules.specs.Accepted.{Accepted}
 use Rattle.frames.specs.declared.read.ImageStatus.{ImageStatus}
 use Rattle.frames.specs.declared.read.ImageStatus.TheVariants as read
 use Rattle.frames.specs.declared.refusal.HostError.TheVariants.{WrongLength, NotAccepted}

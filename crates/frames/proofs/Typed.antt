@@ -1,7 +1,7 @@
 -- Where it comes from that a state's numbers fit the fields of an image: from the types of the scheduler's fields. What a function is told of a
 -- parameter, or of what a call gave back, is `Is`: that the parameter is a value of its type. So every valid scheduler's state has an image.
 -- Assumes nothing.
-use mathlib.Core.List.{List, [], ◌∷◌, map}
+use mathlib.Core.List.{List, [], ◌∷◌}
 use native.Mathlib.Omega.{arith}
 use mir.Val.{Val}
 use denote.Array.{each}

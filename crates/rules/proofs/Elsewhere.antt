@@ -3,11 +3,9 @@
 use mathlib.Core.Path.{◌≡◌, refl, sym, ◌∙◌}
 use Prim.Native.Nat.{ℕ}
 use lib.Seq.{get_or-set_other}
-use Rattle.records.specs.declared.ids.SlotOption.TheVariants as slot
 use Rattle.records.specs.declared.task.TaskControlBlock.{TaskControlBlock}
 use Rattle.records.specs.Task.{empty_record}
 use Rattle.rules.specs.declared.call.Call.{Call}
-use Rattle.rules.specs.declared.answer.PickOption.TheVariants as pick
 use Rattle.rules.specs.State.{State, task, with_task}
 use Rattle.rules.specs.Outcome.{Outcome, Chosen}
 use Rattle.rules.specs.Waking.{free_slot}

@@ -16,10 +16,10 @@ use Rattle.queue.specs.declared.Pushed.{Pushed}
 use Rattle.queue.specs.Promises.{Push}
 use Rattle.rules.specs.declared.answer.PlanOption.TheVariants as plan
 use Rattle.rules.specs.declared.answer.Value.TheVariants as value
-use Rattle.rules.specs.declared.call.Call.TheVariants.{Yield, Handoff, Plan}
+use Rattle.rules.specs.declared.call.Call.TheVariants.{Yield, Handoff}
 use Rattle.scheduler.specs.declared.scheduler.QoSScheduler.{QoSScheduler}
 use Rattle.scheduler.specs.declared.scheduler.Reply.{Reply}
-use Rattle.rules.specs.State.{State, none_byte, task, queue, holder_in}
+use Rattle.rules.specs.State.{State, none_byte, task, holder_in}
 use Rattle.rules.specs.Picking.{rule_p}
 use Rattle.rules.specs.Waking.{enqueued}
 use Rattle.rules.specs.Ticking.{cleared, answer_plan, yield_holder, yield, handoff_in, handoff_holder, handoff}

@@ -1,6 +1,5 @@
 -- `accepts_image` meets its contract: a law for each way out. That every byte is below 256 is known of a slice of them. Assumes nothing.
 use Rattle.frames.proofs.Accepting.{lengths_fit, accepts_length, accepts_queues, accepts_slots, accepts_rest}
-use borrow.Author.Rules.{rules}
 use Rattle.frames.proofs.accept.accepts_image.Goals as goal
 
 pub returns-then-image-ne-IMAGE_BYTES : goal.returns-then-image-ne-IMAGE_BYTES

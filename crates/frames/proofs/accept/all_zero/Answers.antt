@@ -1,8 +1,5 @@
-use mathlib.Core.Path.{◌≡◌, ap, ◌∙◌}
-use Prim.Native.Nat.{◌*◌, ◌-◌, ◌≤◌}
+use mathlib.Core.Path.{ap, ◌∙◌}
 use borrow.Author.Rules.{rules}
-use lib.Dec.{eqb}
-use lib.ListN.{length, take}
 use lib.Seq.{take_all}
 use Rattle.frames.specs.Private.{all_zero}
 use Rattle.frames.proofs.Passing.{zeros_begin, zeros_on}

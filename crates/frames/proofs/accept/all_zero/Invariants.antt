@@ -1,12 +1,9 @@
 -- `all_zero` meets its contract. The loop's invariant: the sum is 0 exactly where every byte so far is. Assumes nothing.
-use mathlib.Core.Path.{◌≡◌, ap, ◌∙◌}
+use mathlib.Core.Path.{◌≡◌}
 use Prim.Native.Nat.{◌*◌, ◌-◌, ◌≤◌}
-use borrow.Author.Rules.{rules}
 use lib.Dec.{eqb}
 use lib.ListN.{length, take}
-use lib.Seq.{take_all}
 use Rattle.frames.specs.Private.{all_zero}
-use Rattle.frames.proofs.Passing.{zeros_begin, zeros_on}
 use Rattle.frames.proofs.accept.all_zero.Given as goal
 
 abbrev pub invariant-loop-k : goal.invariant-loop-k

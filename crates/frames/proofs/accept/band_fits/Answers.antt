@@ -2,8 +2,7 @@ use mathlib.Core.Path.{◌≡◌}
 use Prim.Native.Nat.{◌+◌, ◌-◌}
 use native.Mathlib.Omega.{arith}
 use lib.ListN.{length-take}
-use Rattle.frames.specs.AcceptedImage.{place_fits}
-use Rattle.frames.proofs.Passing.{Passing, passing_begin, passing_on, passing_failed}
+use Rattle.frames.proofs.Passing.{passing_begin, passing_on, passing_failed}
 use Rattle.frames.proofs.Accepting.{place_entry, band_long, band_places, band_rest}
 use borrow.Author.Rules.{rules}
 use Rattle.frames.proofs.accept.band_fits.Goals as goal

@@ -1,6 +1,5 @@
 -- `bands_fit` meets its contract: a law for each way out. Assumes nothing.
 use Rattle.frames.proofs.Accepting.{bands_first, bands_second, bands_third}
-use borrow.Author.Rules.{rules}
 use Rattle.frames.proofs.accept.bands_fit.Goals as goal
 
 pub returns-then-not-band_fits : goal.returns-then-not-band_fits

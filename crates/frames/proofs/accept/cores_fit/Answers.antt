@@ -1,7 +1,4 @@
-use Prim.Native.Nat.{◌-◌}
-use Rattle.frames.specs.AcceptedImage.{core_fits}
-use Rattle.frames.proofs.Passing.{Passing, passing_begin, passing_on, passing_failed, passing_ended}
-use borrow.Author.Rules.{rules}
+use Rattle.frames.proofs.Passing.{passing_begin, passing_on, passing_failed, passing_ended}
 use Rattle.frames.proofs.accept.cores_fit.Goals as goal
 
 pub loop-core-init : goal.loop-core-init

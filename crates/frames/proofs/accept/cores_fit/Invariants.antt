@@ -1,8 +1,7 @@
 -- `cores_fit` meets its contract. The loop's invariant: every core so far fits. Assumes nothing.
 use Prim.Native.Nat.{◌-◌}
 use Rattle.frames.specs.AcceptedImage.{core_fits}
-use Rattle.frames.proofs.Passing.{Passing, passing_begin, passing_on, passing_failed, passing_ended}
-use borrow.Author.Rules.{rules}
+use Rattle.frames.proofs.Passing.{Passing}
 use Rattle.frames.proofs.accept.cores_fit.Given as goal
 
 abbrev pub invariant-loop-core : goal.invariant-loop-core

@@ -1,6 +1,5 @@
 -- `is_waiting` meets its contract: a law for each way out. Assumes nothing.
 use Rattle.frames.proofs.Accepting.{waiting-past, waiting_not, waiting_of}
-use borrow.Author.Rules.{rules}
 use Rattle.frames.proofs.accept.is_waiting.Goals as goal
 
 pub returns-then-slot-ge-MAX_TASKS : goal.returns-then-slot-ge-MAX_TASKS

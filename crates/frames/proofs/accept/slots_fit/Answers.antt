@@ -1,11 +1,6 @@
-use Prim.Native.Nat.{◌-◌}
 use Rattle.records.specs.declared.band.QoSClass.TheVariants.{UserInteractive, RealTimeIO, Background}
-use Rattle.rules.specs.Accepted.{stands_once}
-use Rattle.frames.specs.Image.{state_at}
-use Rattle.frames.specs.AcceptedImage.{slot_fits}
-use Rattle.frames.proofs.Passing.{Passing, passing_begin, passing_on, first_failed, second_failed, both_ended}
-use Rattle.frames.proofs.Counting.{CountsAre, first_most, second_most, third_most, counts_are, stands_once_lem}
-use borrow.Author.Rules.{rules}
+use Rattle.frames.proofs.Passing.{passing_begin, passing_on, first_failed, second_failed, both_ended}
+use Rattle.frames.proofs.Counting.{first_most, second_most, third_most, counts_are, stands_once_lem}
 use Rattle.frames.proofs.accept.slots_fit.Goals as goal
 
 pub counted-first-requires : goal.counted-first-requires

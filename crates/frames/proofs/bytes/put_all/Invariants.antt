@@ -1,12 +1,9 @@
 -- `put_all` meets its contract. The loop's invariant: the bytes that are left, stored behind those that are done, give what is asked for.
 -- Assumes nothing.
-use mathlib.Core.Path.{◌≡◌, refl, sym, ap, ◌∙◌}
+use mathlib.Core.Path.{◌≡◌}
 use Prim.Native.Nat.{◌+◌, ◌-◌}
-use native.Mathlib.Nat.{add-zero}
-use borrow.Author.Rules.{rules}
-use lib.ListN.{length, drop, drop_of_length-le}
+use lib.ListN.{length, drop}
 use lib.Seq.{sets}
-use Rattle.frames.proofs.Stores.{sets_on}
 use Rattle.frames.proofs.bytes.put_all.Given as goal
 
 abbrev pub invariant-loop-k : goal.invariant-loop-k

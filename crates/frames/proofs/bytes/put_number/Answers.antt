@@ -1,9 +1,5 @@
-use mathlib.Core.Path.{◌≡◌, refl, sym, ◌∙◌}
-use Prim.Native.Nat.{◌≤◌}
+use mathlib.Core.Path.{refl, sym, ◌∙◌}
 use borrow.Author.Rules.{rules}
-use lib.ListN.{length}
-use lib.Seq.{sets}
-use Rattle.frames.specs.Bytes.{bytes_of}
 use Rattle.frames.proofs.Numbers.{putting_on, putting_ended}
 use Rattle.frames.proofs.bytes.put_number.Goals as goal
 

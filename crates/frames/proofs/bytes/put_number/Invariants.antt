@@ -1,12 +1,10 @@
 -- `put_number` meets its contract. The loop's invariant: the bytes of what is left, stored in the buffer as it is, give what is asked for.
 -- Assumes nothing.
-use mathlib.Core.Path.{◌≡◌, refl, sym, ◌∙◌}
+use mathlib.Core.Path.{◌≡◌}
 use Prim.Native.Nat.{◌≤◌}
-use borrow.Author.Rules.{rules}
 use lib.ListN.{length}
 use lib.Seq.{sets}
 use Rattle.frames.specs.Bytes.{bytes_of}
-use Rattle.frames.proofs.Numbers.{putting_on, putting_ended}
 use Rattle.frames.proofs.bytes.put_number.Given as goal
 
 abbrev pub invariant-loop-k : goal.invariant-loop-k

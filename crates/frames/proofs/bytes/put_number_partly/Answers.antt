@@ -1,10 +1,7 @@
-use mathlib.Core.Path.{◌≡◌, refl, sym, ap, ◌∙◌}
-use mathlib.Core.Logic.{⊎_elim}
-use Prim.Native.Nat.{◌≤◌}
+use mathlib.Core.Path.{refl, sym, ap, ◌∙◌}
 use borrow.Author.Rules.{rules}
 use lib.ListN.{length}
-use lib.Seq.{sets, set_out, length-sets}
-use Rattle.frames.specs.Bytes.{bytes_of}
+use lib.Seq.{set_out, length-sets}
 use Rattle.frames.proofs.Numbers.{putting_on, putting_ended}
 use Rattle.frames.proofs.bytes.put_number_partly.Goals as goal
 use Rattle.frames.proofs.bytes.put_number_partly.Goals.{then-at-k, else-at-k}

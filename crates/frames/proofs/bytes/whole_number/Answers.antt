@@ -1,7 +1,5 @@
-use Prim.Native.Nat.{◌-◌, ◌≤◌}
 use native.Mathlib.Omega.{arith}
 use borrow.Author.Rules.{rules}
-use Rattle.frames.specs.Private.{IsNumber}
 use Rattle.frames.proofs.Numbers.{number_begin, number_on, number_ended, number_room}
 use Rattle.frames.proofs.bytes.whole_number.Goals as goal
 

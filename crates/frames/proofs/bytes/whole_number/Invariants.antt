@@ -1,9 +1,6 @@
 -- `whole_number` meets its contract. The loop's invariant: what was read is the number that stands in the bytes so far. Assumes nothing.
 use Prim.Native.Nat.{◌-◌, ◌≤◌}
-use native.Mathlib.Omega.{arith}
-use borrow.Author.Rules.{rules}
 use Rattle.frames.specs.Private.{IsNumber}
-use Rattle.frames.proofs.Numbers.{number_begin, number_on, number_ended, number_room}
 use Rattle.frames.proofs.bytes.whole_number.Given as goal
 
 abbrev pub invariant-loop-k : goal.invariant-loop-k

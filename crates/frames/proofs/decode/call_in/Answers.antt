@@ -2,7 +2,7 @@
 use mathlib.Core.Path.{refl}
 use Rattle.rules.specs.declared.call.Call.TheVariants.{Affinity, Terminate, Block, Wake, Enqueue, Schedule, Tick, Yield, Handoff, Plan, CanRunOnCore, TaskIndexForTid, Task, CurrentTaskOnCpu, Holder}
 use Rattle.frames.specs.declared.decode.CallOption.TheVariants.{Some}
-use Rattle.frames.proofs.Decodings.{entry, no_entry, none_below}
+use Rattle.frames.proofs.Decodings.{entry, no_entry}
 use borrow.Author.Rules.{rules}
 use Rattle.frames.proofs.decode.call_in.Goals as goal
 

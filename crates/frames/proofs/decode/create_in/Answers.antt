@@ -4,7 +4,6 @@ use Rattle.records.specs.Band.{coded_band}
 use Rattle.rules.specs.declared.call.Call.TheVariants.{Create}
 use Rattle.frames.specs.declared.decode.CallOption.TheVariants.{Some}
 use Rattle.frames.proofs.Decodings.{create_as}
-use borrow.Author.Rules.{rules}
 use Rattle.frames.proofs.decode.create_in.Goals as goal
 
 pub returns-in_default : goal.returns-in_default

@@ -2,7 +2,6 @@
 use mathlib.Core.Path.{sym, ◌∙◌}
 use native.Mathlib.Omega.{arith}
 use Rattle.frames.proofs.Decodings.{frame_when, frame_unless, frame-empty, frame_unknown}
-use borrow.Author.Rules.{rules}
 use Rattle.frames.proofs.decode.read_frame.Goals as goal
 
 pub returns-then-frame-eq0 : goal.returns-then-frame-eq0

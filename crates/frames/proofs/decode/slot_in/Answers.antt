@@ -1,5 +1,4 @@
 -- `slot_in` meets its contract. Assumes nothing.
-use borrow.Author.Rules.{rules}
 use Rattle.frames.proofs.decode.slot_in.Goals as goal
 
 pub returns : goal.returns

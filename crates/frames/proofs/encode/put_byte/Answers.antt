@@ -3,7 +3,6 @@ use mathlib.Core.Path.{refl, sym}
 use mathlib.Core.List.{[], ◌∷◌}
 use Rattle.frames.proofs.Runs.{run_end}
 use Rattle.frames.proofs.Sizes.{length-written}
-use borrow.Author.Rules.{rules}
 use Rattle.frames.proofs.encode.put_byte.Goals as goal
 
 pub returns : goal.returns

@@ -2,7 +2,6 @@
 use mathlib.Core.Path.{refl}
 use Rattle.frames.proofs.Runs.{run_on, run_end}
 use Rattle.frames.proofs.Encodings.{pick_as}
-use borrow.Author.Rules.{rules}
 use Rattle.frames.proofs.encode.put_pick.Goals as goal
 
 pub returns-in-None : goal.returns-in-None

@@ -1,7 +1,6 @@
 -- `put_record` meets its contract: three parts, one behind the other. Assumes nothing.
 use native.Mathlib.Omega.{arith}
 use Rattle.frames.proofs.Encodings.{record_put}
-use borrow.Author.Rules.{rules}
 use Rattle.frames.proofs.encode.put_record.Goals as goal
 
 pub put_context-requires : goal.put_context-requires

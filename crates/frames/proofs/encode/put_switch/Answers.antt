@@ -2,7 +2,6 @@
 use mathlib.Core.Path.{refl}
 use Rattle.frames.proofs.Runs.{run_on, run_end}
 use Rattle.frames.proofs.Encodings.{switch_put}
-use borrow.Author.Rules.{rules}
 use Rattle.frames.proofs.encode.put_switch.Goals as goal
 
 pub returns-in-Task : goal.returns-in-Task

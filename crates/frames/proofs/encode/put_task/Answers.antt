@@ -4,7 +4,6 @@ use Rattle.rules.specs.declared.answer.Value.TheVariants as value
 use Rattle.rules.specs.declared.answer.TaskOption.TheVariants as task
 use Rattle.frames.specs.Private.{value_bytes}
 use Rattle.frames.proofs.Encodings.{value_as, byte_put, task-put}
-use borrow.Author.Rules.{rules}
 use Rattle.frames.proofs.encode.put_task.Goals as goal
 
 pub returns-in-None : goal.returns-in-None

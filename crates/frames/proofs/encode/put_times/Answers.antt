@@ -2,7 +2,6 @@
 use mathlib.Core.Path.{refl}
 use native.Mathlib.Omega.{arith}
 use Rattle.frames.proofs.Runs.{run_on, run_end}
-use borrow.Author.Rules.{rules}
 use Rattle.frames.proofs.encode.put_times.Goals as goal
 
 pub returns : goal.returns

@@ -4,7 +4,6 @@ use Rattle.rules.specs.declared.answer.Value.TheVariants as value
 use Rattle.frames.specs.Private.{value_bytes}
 use Rattle.frames.proofs.Runs.{run_end}
 use Rattle.frames.proofs.Encodings.{value_as, value_put, byte_put}
-use borrow.Author.Rules.{rules}
 use Rattle.frames.proofs.encode.put_value.Goals as goal
 
 pub returns-in-Nothing : goal.returns-in-Nothing

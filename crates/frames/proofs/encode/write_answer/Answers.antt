@@ -2,7 +2,6 @@
 use native.Mathlib.Omega.{arith}
 use Rattle.frames.proofs.Sizes.{length-value_bytes, value_fits}
 use Rattle.frames.proofs.Encodings.{answer-put}
-use borrow.Author.Rules.{rules}
 use Rattle.frames.proofs.encode.write_answer.Goals as goal
 
 pub overflow_add-result : goal.overflow_add-result

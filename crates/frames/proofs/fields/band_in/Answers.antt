@@ -1,6 +1,5 @@
 -- `band_in` meets its contract: the band that the code reads as, or the empty record's. Assumes nothing.
 use mathlib.Core.Path.{sym, ◌∙◌}
-use borrow.Author.Rules.{rules}
 use Rattle.frames.proofs.RecordBytes.{band_is}
 use Rattle.frames.proofs.fields.band_in.Goals as goal
 

@@ -1,6 +1,5 @@
 -- `codes_fit` meets its contract: a law for each way out. Assumes nothing.
 use Rattle.frames.proofs.RecordBytes.{codes_band, codes_state, codes_rest}
-use borrow.Author.Rules.{rules}
 use Rattle.frames.proofs.fields.codes_fit.Goals as goal
 
 pub returns-then-number-gt2 : goal.returns-then-number-gt2

@@ -1,6 +1,5 @@
 -- `is_in_use` meets its contract. Assumes nothing.
 use Rattle.frames.proofs.RecordBytes.{in_use_is}
-use borrow.Author.Rules.{rules}
 use Rattle.frames.proofs.fields.is_in_use.Goals as goal
 
 pub returns : goal.returns

@@ -1,6 +1,5 @@
 -- `is_ready` meets its contract: it compares the state that was read. Assumes nothing.
 use mathlib.Core.Path.{ap, ◌∙◌}
-use borrow.Author.Rules.{rules}
 use Rattle.records.specs.declared.state.ThreadState.{ThreadState}
 use Rattle.records.specs.declared.state.ThreadState.TheVariants.{Ready}
 use Rattle.records.specs.ThreadState.{is_state}

@@ -1,5 +1,4 @@
 -- `may_hold` meets its contract: a law for a record that is in use and one for a record that is not. Assumes nothing.
-use borrow.Author.Rules.{rules}
 use Rattle.frames.proofs.RecordBytes.{hold_unused, hold_used}
 use Rattle.frames.proofs.fields.may_hold.Goals as goal
 

@@ -1,6 +1,5 @@
 -- `record_fits` meets its contract: a law for each way out. Assumes nothing.
 use Rattle.frames.proofs.RecordBytes.{record_codes, record_use, record_mask, record_budget, record_rest}
-use borrow.Author.Rules.{rules}
 use Rattle.frames.proofs.fields.record_fits.Goals as goal
 
 pub returns-then-not-codes_fit : goal.returns-then-not-codes_fit

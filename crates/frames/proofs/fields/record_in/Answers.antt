@@ -1,5 +1,4 @@
 -- `record_in` meets its contract: each field is read where the record has it. Assumes nothing.
-use borrow.Author.Rules.{rules}
 use Rattle.frames.proofs.RecordBytes.{record_read}
 use Rattle.frames.proofs.fields.record_in.Goals as goal
 

@@ -1,7 +1,6 @@
 -- `slice_in` meets its contract: the slice of the band that was read. Assumes nothing.
 use mathlib.Core.Path.{ap, ◌∙◌}
 use Rattle.records.specs.Band.{slice}
-use borrow.Author.Rules.{rules}
 use Rattle.frames.proofs.fields.slice_in.Goals as goal
 
 pub returns : goal.returns

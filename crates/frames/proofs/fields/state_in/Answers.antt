@@ -1,6 +1,5 @@
 -- `state_in` meets its contract: the state that the code reads as, or the empty record's. Assumes nothing.
 use mathlib.Core.Path.{sym, ◌∙◌}
-use borrow.Author.Rules.{rules}
 use Rattle.frames.proofs.RecordBytes.{state_is}
 use Rattle.frames.proofs.fields.state_in.Goals as goal
 

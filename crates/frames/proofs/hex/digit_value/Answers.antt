@@ -1,7 +1,6 @@
 -- `digit_value` meets its contract, from the two tests that it makes. Assumes nothing.
 use mathlib.Core.Path.{sym, ◌∙◌}
 use native.Mathlib.Omega.{arith}
-use borrow.Author.Rules.{rules}
 use Rattle.frames.proofs.Digits.{within-is, value_number, value_letter, value_none}
 use Rattle.frames.proofs.hex.digit_value.Goals as goal
 

@@ -1,6 +1,5 @@
-use Prim.Native.Nat.{◌-◌}
 use borrow.Author.Rules.{rules}
-use Rattle.frames.proofs.Digits.{ReadingDigits, reading_begin, reading_on, reading_ended}
+use Rattle.frames.proofs.Digits.{reading_begin, reading_on, reading_ended}
 use Rattle.frames.proofs.hex.from_hex.Goals as goal
 
 pub loop-k-init : goal.loop-k-init

@@ -1,8 +1,7 @@
 -- `from_hex` meets its contract. The loop's invariant: the bytes of the digits that are left, stored behind those that are done, give what is asked
 -- for. Assumes nothing.
 use Prim.Native.Nat.{◌-◌}
-use borrow.Author.Rules.{rules}
-use Rattle.frames.proofs.Digits.{ReadingDigits, reading_begin, reading_on, reading_ended}
+use Rattle.frames.proofs.Digits.{ReadingDigits}
 use Rattle.frames.proofs.hex.from_hex.Given as goal
 
 abbrev pub invariant-loop-k : goal.invariant-loop-k

@@ -1,5 +1,4 @@
 -- `is_digit` meets its contract: the second test is made where the first fails. Assumes nothing.
-use borrow.Author.Rules.{rules}
 use Rattle.frames.proofs.Digits.{is_digit_number, is_digit_letter}
 use Rattle.frames.proofs.hex.is_digit.Goals as goal
 

@@ -1,10 +1,5 @@
 use mathlib.Core.Path.{sym, ◌∙◌}
-use mathlib.Core.Logic.{⊎_elim}
-use Prim.Native.Nat.{◌-◌}
-use borrow.Author.Rules.{rules}
-use borrow.Author.Tests.{not-true, not-false}
-use lib.ListN.{length}
-use Rattle.frames.proofs.Digits.{Testing, testing_begin, testing_on, testing_first, testing_second, testing_ended}
+use Rattle.frames.proofs.Digits.{testing_begin, testing_on, testing_first, testing_second, testing_ended}
 use Rattle.frames.proofs.hex.is_hex.Goals as goal
 use Rattle.frames.proofs.hex.is_hex.Goals.{then-not-is_digit-via-then-not-is_digit, then-not-is_digit-via-else-not-is_digit+then-not-is_digit-2}
 

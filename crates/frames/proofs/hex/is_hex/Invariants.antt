@@ -1,11 +1,7 @@
 -- `is_hex` meets its contract. The loop's invariant: the line is digits where what is left of it is. Assumes nothing.
-use mathlib.Core.Path.{sym, ◌∙◌}
-use mathlib.Core.Logic.{⊎_elim}
 use Prim.Native.Nat.{◌-◌}
-use borrow.Author.Rules.{rules}
-use borrow.Author.Tests.{not-true, not-false}
 use lib.ListN.{length}
-use Rattle.frames.proofs.Digits.{Testing, testing_begin, testing_on, testing_first, testing_second, testing_ended}
+use Rattle.frames.proofs.Digits.{Testing}
 use Rattle.frames.proofs.hex.is_hex.Given as goal
 
 abbrev pub invariant-loop-k : goal.invariant-loop-k

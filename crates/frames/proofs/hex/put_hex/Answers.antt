@@ -1,8 +1,7 @@
-use Prim.Native.Nat.{◌-◌}
 use native.Mathlib.Omega.{arith}
 use borrow.Author.Rules.{rules}
 use lib.ListN.{length-set}
-use Rattle.frames.proofs.Digits.{Storing, storing_begin, storing_on, storing-ended}
+use Rattle.frames.proofs.Digits.{storing_begin, storing_on, storing-ended}
 use Rattle.frames.proofs.hex.put_hex.Goals as goal
 
 pub loop-k-init : goal.loop-k-init

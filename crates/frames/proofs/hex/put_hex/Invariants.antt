@@ -1,10 +1,7 @@
 -- `put_hex` meets its contract. The loop's invariant: the digits of the bytes that are left, stored behind those that are done, give what is asked
 -- for. Assumes nothing.
 use Prim.Native.Nat.{◌-◌}
-use native.Mathlib.Omega.{arith}
-use borrow.Author.Rules.{rules}
-use lib.ListN.{length-set}
-use Rattle.frames.proofs.Digits.{Storing, storing_begin, storing_on, storing-ended}
+use Rattle.frames.proofs.Digits.{Storing}
 use Rattle.frames.proofs.hex.put_hex.Given as goal
 
 abbrev pub invariant-loop-k : goal.invariant-loop-k

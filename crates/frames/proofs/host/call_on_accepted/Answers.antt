@@ -1,6 +1,5 @@
 -- `call_on_accepted` meets its contract: a refused call leaves the image, and after any other the records that it left are not written.
 -- Assumes nothing.
-use borrow.Author.Rules.{rules}
 use Rattle.frames.proofs.Hosting.{answers_refused, answers_done, untouched}
 use Rattle.frames.proofs.host.call_on_accepted.Goals as goal
 

@@ -1,6 +1,5 @@
 -- `call_on_image` meets its contract: a refused image stays as it is, and else the call is done. Assumes nothing.
 use mathlib.Core.Path.{sym, ◌∙◌}
-use borrow.Author.Rules.{rules}
 use Rattle.frames.proofs.Hosting.{called_refused, called_done}
 use Rattle.frames.proofs.Statuses.{status_says}
 use Rattle.frames.proofs.host.call_on_image.Goals as goal

@@ -1,6 +1,5 @@
 -- `new_image` meets its contract: what the writer promises of the new state. Assumes nothing.
 use mathlib.Core.Path.{◌∙◌}
-use borrow.Author.Rules.{rules}
 use Rattle.frames.specs.Host.{first_image}
 use Rattle.frames.proofs.Hosting.{new_made}
 use Rattle.frames.proofs.host.new_image.Goals as goal

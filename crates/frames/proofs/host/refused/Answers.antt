@@ -1,6 +1,5 @@
 -- `refused` meets its contract: a refusal's number is small. Assumes nothing.
 use native.Mathlib.Omega.{arith}
-use borrow.Author.Rules.{rules}
 use Rattle.frames.proofs.Hosting.{host_number-small}
 use Rattle.frames.proofs.host.refused.Goals as goal
 

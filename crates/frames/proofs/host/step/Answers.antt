@@ -1,6 +1,5 @@
 -- `step` meets its contract: a law for each way out. Assumes nothing.
 use mathlib.Core.Path.{ap, ◌∙◌}
-use borrow.Author.Rules.{rules}
 use Rattle.frames.specs.Host.{hosted}
 use Rattle.frames.proofs.Hosting.{step_short, step_none, step_refused, step_answered}
 use Rattle.frames.proofs.host.step.Goals as goal

@@ -1,6 +1,5 @@
 -- `without_call` meets its contract: the image's refusal, or else the frame's. Assumes nothing.
 use mathlib.Core.Path.{sym, ap, ◌∙◌}
-use borrow.Author.Rules.{rules}
 use Rattle.frames.specs.Private.{refusal_in}
 use Rattle.frames.proofs.host.without_call.Goals as goal
 

@@ -1,5 +1,4 @@
 -- `put_queue` meets its contract: the length, then the places behind it. Assumes nothing.
-use borrow.Author.Rules.{rules}
 use Rattle.frames.proofs.Writings.{queue_put}
 use Rattle.frames.proofs.image.put_queue.Goals as goal
 

@@ -1,6 +1,5 @@
 -- `put_queues` meets its contract: three queues, one behind the other. Assumes nothing.
 use native.Mathlib.Omega.{arith}
-use borrow.Author.Rules.{rules}
 use Rattle.records.specs.declared.band.QoSClass.TheVariants.{UserInteractive, RealTimeIO, Background}
 use Rattle.frames.specs.Image.{queues_place}
 use Rattle.frames.proofs.Writings.{queue_fits_lem, queues_put}

@@ -1,10 +1,7 @@
-use mathlib.Core.Path.{◌≡◌, refl, ap, ◌∙◌}
-use Prim.Native.Nat.{◌*◌, ◌-◌}
+use mathlib.Core.Path.{refl, ap, ◌∙◌}
 use native.Mathlib.Omega.{arith}
-use borrow.Author.Rules.{rules}
-use lib.ListN.{length, drop}
-use lib.Seq.{sets, length-sets}
-use Rattle.frames.specs.Image.{record_length, records_bytes}
+use lib.ListN.{length}
+use lib.Seq.{length-sets}
 use Rattle.frames.proofs.Writings.{records_on, records_end}
 use Rattle.frames.proofs.image.put_records.Goals as goal
 

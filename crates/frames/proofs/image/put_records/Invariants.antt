@@ -1,13 +1,10 @@
 -- `put_records` meets its contract. The loop's invariant: the records that are left, stored behind those that are done, give what is asked for.
 -- Assumes nothing.
-use mathlib.Core.Path.{◌≡◌, refl, ap, ◌∙◌}
+use mathlib.Core.Path.{◌≡◌}
 use Prim.Native.Nat.{◌*◌, ◌-◌}
-use native.Mathlib.Omega.{arith}
-use borrow.Author.Rules.{rules}
-use lib.ListN.{length, drop}
-use lib.Seq.{sets, length-sets}
+use lib.ListN.{drop}
+use lib.Seq.{sets}
 use Rattle.frames.specs.Image.{record_length, records_bytes}
-use Rattle.frames.proofs.Writings.{records_on, records_end}
 use Rattle.frames.proofs.image.put_records.Given as goal
 
 abbrev pub invariant-loop-slot : goal.invariant-loop-slot

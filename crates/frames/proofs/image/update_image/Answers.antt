@@ -1,6 +1,5 @@
 -- `update_image` meets its contract: two records over those of their slots, and behind the records all of the rest. Assumes nothing.
 use native.Mathlib.Omega.{arith}
-use borrow.Author.Rules.{rules}
 use Rattle.scheduler.proofs.Arrays.{cores}
 use Rattle.frames.proofs.Writings.{queues_short, image_over}
 use Rattle.frames.proofs.image.update_image.Goals as goal

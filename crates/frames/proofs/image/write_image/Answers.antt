@@ -1,7 +1,6 @@
 -- `write_image` meets its contract: records, queues, holders and microseconds, one behind the other, fill the buffer. Assumes nothing.
 use mathlib.Core.Path.{refl}
 use native.Mathlib.Omega.{arith}
-use borrow.Author.Rules.{rules}
 use borrow.Author.Tests.{eq-eqb, ne_eqb}
 use Rattle.frames.proofs.Typed.{valid-image}
 use Rattle.scheduler.proofs.Arrays.{cores}

@@ -1,10 +1,6 @@
-use mathlib.Core.Logic.{⊎_elim}
-use mathlib.Core.Path.{◌≡◌, sym}
-use Prim.Native.Nat.{◌+◌, ◌-◌, ◌≤◌}
+use mathlib.Core.Path.{sym}
 use borrow.Author.Rules.{rules}
 use borrow.Author.Tests.{eq-eqb, ne_eqb}
-use lib.ListN.{length, drop}
-use Rattle.frames.specs.Lines.{line_of}
 use Rattle.frames.proofs.Cuts.{line-none, line-empty, line_on, line_found}
 use Rattle.frames.proofs.lines.next_line.Goals as goal
 use Rattle.frames.proofs.lines.next_line.Goals.{then-loop-end-test+else-input-end-ne-NEWLINE, else-loop-end-test}

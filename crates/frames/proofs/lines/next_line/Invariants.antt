@@ -1,13 +1,9 @@
 -- `next_line` meets its contract. The loop's invariant: the line from `at` on ends where the line from `end` on does. The measure is what is left
 -- of the input. Assumes nothing.
-use mathlib.Core.Logic.{⊎_elim}
-use mathlib.Core.Path.{◌≡◌, sym}
+use mathlib.Core.Path.{◌≡◌}
 use Prim.Native.Nat.{◌+◌, ◌-◌, ◌≤◌}
-use borrow.Author.Rules.{rules}
-use borrow.Author.Tests.{not-true, not-false}
 use lib.ListN.{length, drop}
 use Rattle.frames.specs.Lines.{line_of}
-use Rattle.frames.proofs.Cuts.{line-none, line-empty, line_on, line_found}
 use Rattle.frames.proofs.lines.next_line.Given as goal
 
 abbrev pub invariant-loop-end : goal.invariant-loop-end

@@ -1,5 +1,4 @@
 -- `put_line` meets its contract: the digits, then the newline behind them. Assumes nothing.
-use borrow.Author.Rules.{rules}
 use Rattle.frames.proofs.LinePuts.{line-stored}
 use Rattle.frames.proofs.lines.put_line.Goals as goal
 

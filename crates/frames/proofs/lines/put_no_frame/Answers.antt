@@ -1,6 +1,5 @@
 -- `put_no_frame` meets its contract: its seven bytes are the digits of 09 ff ff and a newline, if they have room. Assumes nothing.
 use mathlib.Core.Path.{refl, ◌∙◌}
-use borrow.Author.Rules.{rules}
 use Rattle.frames.specs.Lines.{no_frame}
 use Rattle.frames.proofs.LinePuts.{line_put, line_not_put, no_frame-stored}
 use Rattle.frames.proofs.lines.put_no_frame.Goals as goal

@@ -1,7 +1,6 @@
 -- `read_line` meets its contract: nothing for a line that is too long or no digits; else what its bytes stand for. Assumes nothing.
 use mathlib.Core.Path.{sym, ◌∙◌}
 use native.Mathlib.Omega.{arith}
-use borrow.Author.Tests.{not-true, not-false}
 use Rattle.frames.proofs.Refused.{long-line}
 use lib.Seq.{length-take-le}
 use Rattle.frames.proofs.Tellings.{line_unless, line_when, read_back}

@@ -1,7 +1,6 @@
 -- `length_byte` meets its contract: the first byte of the queue's 65. Assumes nothing.
 use native.Mathlib.Omega.{arith}
 use Rattle.frames.proofs.Accepting.{length_read}
-use borrow.Author.Rules.{rules}
 use Rattle.frames.proofs.parts.length_byte.Goals as goal
 
 pub overflow_cast-result : goal.overflow_cast-result

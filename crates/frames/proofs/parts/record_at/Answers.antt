@@ -3,7 +3,6 @@ use mathlib.Core.Path.{◌≡◌, ap}
 use Prim.Native.Nat.{◌+◌, ◌-◌, ◌*◌}
 use native.Mathlib.Omega.{arith}
 use lib.ListN.{take, drop}
-use borrow.Author.Rules.{rules}
 use Rattle.frames.proofs.parts.record_at.Goals as goal
 
 pub returns : goal.returns

@@ -1,5 +1,4 @@
 -- `check_image` meets its contract: a law for each way out. Assumes nothing.
-use borrow.Author.Rules.{rules}
 use Rattle.frames.proofs.Statuses.{status_length, status_refused, status_passed}
 use Rattle.frames.proofs.read.check_image.Goals as goal
 

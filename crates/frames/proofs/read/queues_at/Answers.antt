@@ -1,5 +1,4 @@
 -- `queues_at` meets its contract: a queue for each band, at the band's code. Assumes nothing.
-use borrow.Author.Rules.{rules}
 use Rattle.scheduler.proofs.Arrays.{three_hold}
 use Rattle.frames.proofs.read.queues_at.Goals as goal
 

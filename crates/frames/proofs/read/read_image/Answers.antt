@@ -1,6 +1,5 @@
 -- `read_image` meets its contract: the scheduler that is read is valid since the image is accepted. Assumes nothing.
 use mathlib.Core.Path.{sym, ◌∙◌}
-use borrow.Author.Rules.{rules}
 use Rattle.frames.proofs.Readings.{read_accepted, read_refused}
 use Rattle.frames.proofs.Statuses.{status_says}
 use Rattle.frames.proofs.read.read_image.Goals as goal

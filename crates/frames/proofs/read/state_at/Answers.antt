@@ -1,6 +1,5 @@
-use Prim.Native.Nat.{◌-◌}
 use borrow.Author.Rules.{rules}
-use Rattle.frames.proofs.Readings.{Reading, recording_begin, recording_on, state-made}
+use Rattle.frames.proofs.Readings.{recording_begin, recording_on, state-made}
 use Rattle.frames.proofs.read.state_at.Goals as goal
 
 pub loop-slot-init : goal.loop-slot-init

@@ -1,8 +1,7 @@
 -- `state_at` meets its contract. The loop's invariant: the records so far, and all that is not a record, are those of the state that the image
 -- stands for. Assumes nothing.
 use Prim.Native.Nat.{◌-◌}
-use borrow.Author.Rules.{rules}
-use Rattle.frames.proofs.Readings.{Reading, recording_begin, recording_on, state-made}
+use Rattle.frames.proofs.Readings.{Reading}
 use Rattle.frames.proofs.read.state_at.Given as goal
 
 abbrev pub invariant-loop-slot : goal.invariant-loop-slot

@@ -1,5 +1,4 @@
 -- `is_ended` meets its contract. Assumes nothing.
-use borrow.Author.Rules.{rules}
 use Rattle.frames.proofs.Held.{ended_held, ended_more}
 use Rattle.frames.proofs.stream.is_ended.Goals as goal
 

@@ -1,5 +1,4 @@
 -- `stopped` meets its contract: the stream with more of its line held. Assumes nothing.
-use borrow.Author.Rules.{rules}
 use Rattle.frames.proofs.Held.{stops}
 use Rattle.frames.proofs.stream.stopped.Goals as goal
 

@@ -2,7 +2,6 @@
 use mathlib.Core.Path.{sym}
 use Prim.Native.Nat.{◌+◌}
 use native.Mathlib.Omega.{arith}
-use borrow.Author.Rules.{rules}
 use Rattle.frames.specs.Image.{holders_place}
 use Rattle.frames.proofs.Images.{holder-byte, holder-past}
 use Rattle.frames.proofs.touched.holder_in.Goals as goal

@@ -1,7 +1,6 @@
 -- `named_slot` meets its contract, call by call. Assumes nothing.
 use mathlib.Core.Path.{◌≡◌, refl, sym, ap, ◌∙◌}
 use Prim.Native.Nat.{ℕ}
-use borrow.Author.Rules.{rules}
 use Rattle.rules.specs.declared.call.Call.{Call}
 use Rattle.rules.specs.State.{State}
 use Rattle.rules.specs.Touched.{named_slot}

@@ -1,5 +1,4 @@
 -- `BandQueue::entry_at` meets its contract: the two answers are those of `Places`. Assumes nothing.
-use borrow.Author.Rules.{rules}
 use Rattle.queue.proofs.Places.{entry_past, entry_in}
 use Rattle.queue.proofs.BandQueue.entry_at.Goals as goal
 

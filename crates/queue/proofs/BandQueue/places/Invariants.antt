@@ -1,11 +1,8 @@
 -- `BandQueue::places` meets its contract. The invariant: the places hold the entries so far, and 0 behind them. Assumes nothing.
-use mathlib.Core.Path.{◌≡◌, ap, ◌∙◌}
+use mathlib.Core.Path.{◌≡◌}
 use Prim.Native.Nat.{◌-◌, ◌≤◌}
-use native.Mathlib.Omega.{arith}
-use borrow.Author.Rules.{rules}
 use Rattle.queue.specs.Entries.{places as places_of}
-use Rattle.queue.specs.Stored.{entries, window}
-use Rattle.queue.proofs.Places.{places-none, places_on}
+use Rattle.queue.specs.Stored.{window}
 use Rattle.queue.proofs.BandQueue.places.Given as goal
 
 abbrev pub invariant-loop-place : goal.invariant-loop-place

@@ -1,5 +1,4 @@
 -- `BandQueue::push` meets its contract: each `return` is one of the answers of `Pushes`. Assumes nothing.
-use borrow.Author.Rules.{rules}
 use Rattle.queue.proofs.Pushes.{push_no_slot, push_full, push_done}
 use Rattle.queue.proofs.BandQueue.push.Goals as goal
 

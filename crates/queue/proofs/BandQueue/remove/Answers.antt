@@ -1,7 +1,6 @@
-use mathlib.Core.Path.{◌≡◌, refl, sym, ◌∙◌}
-use Prim.Native.Nat.{◌-◌}
+use mathlib.Core.Path.{refl, sym, ◌∙◌}
 use borrow.Author.Rules.{rules}
-use Rattle.queue.proofs.Removal.{Removing, removing_start, removing_drop, removing_keep, removed}
+use Rattle.queue.proofs.Removal.{removing_start, removing_drop, removing_keep, removed}
 use Rattle.queue.proofs.BandQueue.remove.Goals as goal
 
 pub loop-place-init : goal.loop-place-init

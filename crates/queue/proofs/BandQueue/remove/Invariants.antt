@@ -1,9 +1,8 @@
 -- `BandQueue::remove` meets its contract. The invariant: what was kept so far, and what will be kept of the rest, is what is asked for. The
 -- measure is how many entries are still to be looked at. Assumes nothing.
-use mathlib.Core.Path.{◌≡◌, refl, sym, ◌∙◌}
+use mathlib.Core.Path.{◌≡◌}
 use Prim.Native.Nat.{◌-◌}
-use borrow.Author.Rules.{rules}
-use Rattle.queue.proofs.Removal.{Removing, removing_start, removing_drop, removing_keep, removed}
+use Rattle.queue.proofs.Removal.{Removing}
 use Rattle.queue.proofs.BandQueue.remove.Given as goal
 
 abbrev pub invariant-loop-place : goal.invariant-loop-place

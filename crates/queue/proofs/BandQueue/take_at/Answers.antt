@@ -1,8 +1,7 @@
 use mathlib.Core.Path.{◌≡◌}
-use Prim.Native.Nat.{◌≤◌, ◌-◌}
 use native.Mathlib.Omega.{arith}
 use borrow.Author.Rules.{rules}
-use Rattle.queue.proofs.Taking.{Turned, taken_none, turned_none, turned_one, turned_taken}
+use Rattle.queue.proofs.Taking.{taken_none, turned_none, turned_one, turned_taken}
 use Rattle.queue.proofs.BandQueue.take_at.Goals as goal
 
 pub returns-then-place-len : goal.returns-then-place-len

@@ -1,10 +1,7 @@
 -- `BandQueue::take_at` meets its contract. The invariant: the entries passed so far have gone to the tail, in their order. The measure is
 -- how many are still to go. Assumes nothing.
-use mathlib.Core.Path.{◌≡◌}
 use Prim.Native.Nat.{◌≤◌, ◌-◌}
-use native.Mathlib.Omega.{arith}
-use borrow.Author.Rules.{rules}
-use Rattle.queue.proofs.Taking.{Turned, taken_none, turned_none, turned_one, turned_taken}
+use Rattle.queue.proofs.Taking.{Turned}
 use Rattle.queue.proofs.BandQueue.take_at.Given as goal
 
 abbrev pub invariant-loop-moved : goal.invariant-loop-moved

@@ -1,5 +1,5 @@
 -- `plan` meets its contract: no plan where the two are the same, else a plan to the slot, or to idle. Assumes nothing.
-use Rattle.std.proofs.Common.{sym, ap, rules}
+use Rattle.std.proofs.Common.{sym, ap}
 use Rattle.records.specs.declared.ids.SlotOption.{SlotOption}
 use Rattle.scheduler.specs.Private.{target_with}
 use Rattle.scheduler.proofs.OnQueries.{plan_none, plan_other}

@@ -1,5 +1,4 @@
 -- `same_slot` meets its contract: two slots are the same where their numbers are. Assumes nothing.
-use Rattle.std.proofs.Common.{rules}
 use Rattle.scheduler.proofs.OnQueries.{same-slots}
 use Rattle.scheduler.proofs.picking.same_slot.Goals as goal
 

@@ -1,5 +1,5 @@
 -- `who_runs` meets its contract, by the form. Assumes nothing.
-use Rattle.std.proofs.Common.{sym, ap, ◌∙◌, rules}
+use Rattle.std.proofs.Common.{sym, ap, ◌∙◌}
 use Rattle.scheduler.specs.declared.picking.Form.{Form}
 use Rattle.scheduler.specs.Private.{who_runs}
 use Rattle.scheduler.proofs.picking.who_runs.Goals as goal

@@ -1,5 +1,4 @@
 -- `has_tid` meets its contract: the tids are compared where the record is in use. Assumes nothing.
-use Rattle.std.proofs.Common.{rules}
 use Rattle.scheduler.proofs.OnQueries.{tid_in_use}
 use Rattle.scheduler.proofs.queries.has_tid.Goals as goal
 

@@ -1,6 +1,5 @@
-use Rattle.std.proofs.Common.{ℕ, ◌-◌, ◌≤◌, eqb, length, sym, arith, rules}
+use Rattle.std.proofs.Common.{sym, arith}
 use borrow.Author.Tests.{eq-eqb, ne_eqb}
-use Rattle.records.specs.Lists.{first_place}
 use Rattle.scheduler.proofs.Searches.{search_on, search_found, search_ended}
 use Rattle.scheduler.proofs.waking.core_holding.Goals as goal
 

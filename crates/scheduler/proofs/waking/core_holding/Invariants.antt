@@ -1,8 +1,6 @@
 -- `core_holding` meets its contract. The loop's invariant: no core before `core` holds the slot. Assumes nothing.
-use Rattle.std.proofs.Common.{ℕ, ◌-◌, ◌≤◌, eqb, length, sym, arith, rules}
-use borrow.Author.Tests.{not-true, not-false}
+use Rattle.std.proofs.Common.{ℕ, ◌-◌, ◌≤◌, eqb, length}
 use Rattle.records.specs.Lists.{first_place}
-use Rattle.scheduler.proofs.Searches.{search_on, search_found, search_ended}
 use Rattle.scheduler.proofs.waking.core_holding.Given as goal
 
 abbrev pub invariant-loop-core : goal.invariant-loop-core

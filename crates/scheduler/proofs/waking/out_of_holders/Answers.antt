@@ -1,6 +1,5 @@
-use Rattle.std.proofs.Common.{◌≡◌, ◌-◌, rules}
-use Rattle.rules.specs.Waking.{released}
-use Rattle.scheduler.proofs.Removals.{mapped, mapped_begin, mapped_on, mapped_ended}
+use Rattle.std.proofs.Common.{rules}
+use Rattle.scheduler.proofs.Removals.{mapped_begin, mapped_on, mapped_ended}
 use Rattle.scheduler.proofs.waking.out_of_holders.Goals as goal
 
 pub loop-core-init : goal.loop-core-init

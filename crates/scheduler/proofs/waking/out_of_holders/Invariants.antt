@@ -1,8 +1,8 @@
 -- `out_of_holders` meets its contract. The loop's invariant: the holders of the cores before `core` are released, the others as they were.
 -- Assumes nothing.
-use Rattle.std.proofs.Common.{◌≡◌, ◌-◌, rules}
+use Rattle.std.proofs.Common.{◌≡◌, ◌-◌}
 use Rattle.rules.specs.Waking.{released}
-use Rattle.scheduler.proofs.Removals.{mapped, mapped_begin, mapped_on, mapped_ended}
+use Rattle.scheduler.proofs.Removals.{mapped}
 use Rattle.scheduler.proofs.waking.out_of_holders.Given as goal
 
 abbrev pub invariant-loop-core : goal.invariant-loop-core

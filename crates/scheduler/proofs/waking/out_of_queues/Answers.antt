@@ -1,6 +1,4 @@
-use Rattle.std.proofs.Common.{◌-◌, rules}
-use Rattle.scheduler.specs.Scheduler.{queues_of, HoldsQueues}
-use Rattle.scheduler.proofs.Removals.{out_below, out_begin, out_on, out_ended}
+use Rattle.scheduler.proofs.Removals.{out_begin, out_on, out_ended}
 use Rattle.scheduler.proofs.Arrays.{ring_below}
 use Rattle.scheduler.proofs.waking.out_of_queues.Goals as goal
 

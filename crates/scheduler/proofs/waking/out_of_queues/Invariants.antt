@@ -1,9 +1,8 @@
 -- `out_of_queues` meets its contract. The loop's invariant: the slot is out of the queues before `band`, and the others are as they were.
 -- Assumes nothing.
-use Rattle.std.proofs.Common.{◌-◌, rules}
+use Rattle.std.proofs.Common.{◌-◌}
 use Rattle.scheduler.specs.Scheduler.{queues_of, HoldsQueues}
-use Rattle.scheduler.proofs.Removals.{out_below, out_begin, out_on, out_ended}
-use Rattle.scheduler.proofs.Arrays.{ring_below}
+use Rattle.scheduler.proofs.Removals.{out_below}
 use Rattle.scheduler.proofs.waking.out_of_queues.Given as goal
 
 abbrev pub invariant-loop-band : goal.invariant-loop-band

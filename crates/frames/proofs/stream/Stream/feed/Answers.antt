@@ -1,13 +1,10 @@
 use mathlib.Core.Path.{sym, ◌∙◌}
-use Prim.Native.Nat.{◌+◌, ◌-◌}
 use borrow.Author.Rules.{rules}
-use borrow.Author.Tests.{not-true, not-false}
-use lib.ListN.{length}
 use Rattle.frames.specs.Answer.{answer_bytes}
 use Rattle.frames.specs.Lines.{no_frame}
 use Rattle.frames.proofs.Cuts.{line-within}
 use Rattle.frames.proofs.LinePuts.{put_in}
-use Rattle.frames.proofs.Progress.{Going, begin, less, stops_open, stops_full, turn}
+use Rattle.frames.proofs.Progress.{begin, less, stops_open, stops_full, turn}
 use Rattle.frames.proofs.Tellings.{makes_refusal, makes_reply}
 use Rattle.frames.proofs.stream.Stream.feed.Goals as goal
 

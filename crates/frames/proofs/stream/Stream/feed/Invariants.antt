@@ -1,16 +1,8 @@
 -- `feed` meets its contract. The loop's invariant: what is done, and what the rest of the block makes in the room that is left, is what is asked for.
 -- The measure is what is left of the block, and what is held. Assumes nothing.
-use mathlib.Core.Path.{sym, ◌∙◌}
 use Prim.Native.Nat.{◌+◌, ◌-◌}
-use borrow.Author.Rules.{rules}
-use borrow.Author.Tests.{not-true, not-false}
 use lib.ListN.{length}
-use Rattle.frames.specs.Answer.{answer_bytes}
-use Rattle.frames.specs.Lines.{no_frame}
-use Rattle.frames.proofs.Cuts.{line-within}
-use Rattle.frames.proofs.LinePuts.{put_in}
-use Rattle.frames.proofs.Progress.{Going, begin, less, stops_open, stops_full, turn}
-use Rattle.frames.proofs.Tellings.{makes_refusal, makes_reply}
+use Rattle.frames.proofs.Progress.{Going}
 use Rattle.frames.proofs.stream.Stream.feed.Given as goal
 
 abbrev pub invariant-loop-held : goal.invariant-loop-held

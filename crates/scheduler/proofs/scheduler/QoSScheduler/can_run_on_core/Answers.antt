@@ -1,5 +1,5 @@
 -- `QoSScheduler::can_run_on_core` meets its contract: a slot past the table, and one of the table. Assumes nothing.
-use Rattle.std.proofs.Common.{sym, rules}
+use Rattle.std.proofs.Common.{sym}
 use Rattle.scheduler.proofs.OnQueries.{slot_runs}
 use Rattle.rules.proofs.OutOfTable.{no_slot_runs}
 use Rattle.scheduler.proofs.scheduler.QoSScheduler.can_run_on_core.Goals as goal

@@ -1,6 +1,4 @@
-use Rattle.std.proofs.Common.{◌≡◌, ◌-◌, ◌≤◌, refl, arith, rules}
-use Rattle.scheduler.specs.Scheduler.{abs, Valid}
-use Rattle.rules.specs.Waking.{free_slot}
+use Rattle.std.proofs.Common.{refl, arith}
 use Rattle.scheduler.proofs.OnSlots.{create_on, create_full, create_done}
 use Rattle.scheduler.proofs.Promises.{meets_from}
 use Rattle.scheduler.proofs.scheduler.QoSScheduler.create_task_with_vspace.Goals as goal

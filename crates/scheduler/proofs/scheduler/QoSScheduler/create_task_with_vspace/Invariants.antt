@@ -1,9 +1,7 @@
 -- `QoSScheduler::create_task_with_vspace` meets its contract: no slot before `free` is free. Assumes nothing.
-use Rattle.std.proofs.Common.{◌≡◌, ◌-◌, ◌≤◌, refl, arith, rules}
+use Rattle.std.proofs.Common.{◌≡◌, ◌-◌, ◌≤◌}
 use Rattle.scheduler.specs.Scheduler.{abs, Valid}
 use Rattle.rules.specs.Waking.{free_slot}
-use Rattle.scheduler.proofs.OnSlots.{create_on, create_full, create_done}
-use Rattle.scheduler.proofs.Promises.{meets_from}
 use Rattle.scheduler.proofs.scheduler.QoSScheduler.create_task_with_vspace.Given as goal
 
 abbrev pub invariant-loop-free : goal.invariant-loop-free

@@ -1,5 +1,5 @@
 -- `QoSScheduler::current_task_on_cpu` meets its contract: a core past the last, one without a holder, and one with a holder. Assumes nothing.
-use Rattle.std.proofs.Common.{sym, arith, rules}
+use Rattle.std.proofs.Common.{sym, arith}
 use Rattle.scheduler.proofs.OnQueries.{core_idle, core_record}
 use Rattle.rules.proofs.OutOfTable.{no_core_record}
 use Rattle.scheduler.proofs.Holders.{holder_below}

@@ -1,5 +1,5 @@
 -- `QoSScheduler::holder` meets its contract: a slot past the table, one that no core holds, and one that a core holds. Assumes nothing.
-use Rattle.std.proofs.Common.{sym, rules}
+use Rattle.std.proofs.Common.{sym}
 use Rattle.scheduler.proofs.OnQueries.{no_core_holds, core_holds}
 use Rattle.rules.proofs.OutOfTable.{no_slot_held}
 use Rattle.scheduler.proofs.scheduler.QoSScheduler.holder.Goals as goal

@@ -1,5 +1,4 @@
 -- `QoSScheduler::new` meets its contract: what it makes is the new state, which is accepted. Assumes nothing.
-use Rattle.std.proofs.Common.{rules}
 use Rattle.scheduler.proofs.OnQueries.{new_made}
 use Rattle.scheduler.proofs.scheduler.QoSScheduler.new.Goals as goal
 

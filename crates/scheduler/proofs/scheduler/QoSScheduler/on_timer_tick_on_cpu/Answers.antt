@@ -1,5 +1,4 @@
 -- `QoSScheduler::on_timer_tick_on_cpu` meets its contract: it is the tick, told as a slot. Assumes nothing.
-use Rattle.std.proofs.Common.{rules}
 use Rattle.scheduler.proofs.OnTicks.{tick-told}
 use Rattle.scheduler.proofs.scheduler.QoSScheduler.on_timer_tick_on_cpu.Goals as goal
 

@@ -1,10 +1,10 @@
-use Rattle.std.proofs.Common.{◌≡◌, ◌+◌, ◌-◌, ◌*◌, refl, ap, arith, rules}
+use Rattle.std.proofs.Common.{refl, ap, arith, rules}
 use Rattle.scheduler.specs.declared.scheduler.QoSScheduler.{QoSScheduler}
 use Rattle.rules.specs.Picking.{rule_p}
-use Rattle.scheduler.specs.Scheduler.{abs, Valid}
+use Rattle.scheduler.specs.Scheduler.{abs}
 use Rattle.scheduler.proofs.OnCores.{on_to_band, place_low, entry_low, on_to_place, pick_found, pick_none}
 use Rattle.scheduler.proofs.Promises.{gives_as}
-use Rattle.scheduler.proofs.Seeking.{Seeking, seeking_first}
+use Rattle.scheduler.proofs.Seeking.{seeking_first}
 use Rattle.scheduler.proofs.Arrays.{ring_below}
 use Rattle.scheduler.proofs.scheduler.QoSScheduler.pick.Goals as goal
 

@@ -1,5 +1,4 @@
 -- `QoSScheduler::plan_context_switch_on_cpu` meets its contract: it is the tick, told as a plan. Assumes nothing.
-use Rattle.std.proofs.Common.{rules}
 use Rattle.scheduler.proofs.OnTicks.{plan_told}
 use Rattle.scheduler.proofs.scheduler.QoSScheduler.plan_context_switch_on_cpu.Goals as goal
 

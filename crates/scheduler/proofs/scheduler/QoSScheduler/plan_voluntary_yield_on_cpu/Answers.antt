@@ -1,6 +1,5 @@
 -- `QoSScheduler::plan_voluntary_yield_on_cpu` meets its contract: each way out cites its law. Assumes nothing.
 use Rattle.std.proofs.Common.{sym, ◌∙◌, arith, rules}
-use borrow.Author.Tests.{not-true, not-false}
 use Rattle.scheduler.proofs.Holders.{holder_below}
 use Rattle.scheduler.proofs.OnPlans.{yield_past, yield_none, yield_idle, sent_back_valid, yield_running_lem}
 use Rattle.scheduler.proofs.Arrays.{ring_below}

@@ -1,5 +1,4 @@
 -- `QoSScheduler::refused` meets its contract: the answer is `Answer::refused`'s. Assumes nothing.
-use Rattle.std.proofs.Common.{rules}
 use Rattle.scheduler.proofs.scheduler.QoSScheduler.refused.Goals as goal
 
 pub returns : goal.returns

@@ -1,5 +1,5 @@
 -- `QoSScheduler::task` meets its contract: a slot past the table, and one of the table. Assumes nothing.
-use Rattle.std.proofs.Common.{sym, rules}
+use Rattle.std.proofs.Common.{sym}
 use Rattle.scheduler.proofs.OnQueries.{slot_record}
 use Rattle.rules.proofs.OutOfTable.{no_slot_record}
 use Rattle.scheduler.proofs.scheduler.QoSScheduler.task.Goals as goal

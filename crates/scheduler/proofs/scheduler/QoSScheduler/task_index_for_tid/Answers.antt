@@ -1,6 +1,4 @@
-use Rattle.std.proofs.Common.{◌-◌, ◌≤◌, sym, ◌∙◌, arith, rules}
-use Rattle.records.specs.Lists.{first_place}
-use Rattle.rules.specs.Queries.{has_tid}
+use Rattle.std.proofs.Common.{sym, ◌∙◌, arith}
 use Rattle.scheduler.proofs.OnQueries.{tid_found, tid_missing}
 use Rattle.scheduler.proofs.Searches.{search_on}
 use Rattle.scheduler.proofs.Arrays.{slots}

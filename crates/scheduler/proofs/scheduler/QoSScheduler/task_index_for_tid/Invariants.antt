@@ -1,10 +1,7 @@
 -- `QoSScheduler::task_index_for_tid` meets its contract. The loop's invariant: no slot before `index` is in use with that tid. Assumes nothing.
-use Rattle.std.proofs.Common.{◌-◌, ◌≤◌, sym, ◌∙◌, arith, rules}
+use Rattle.std.proofs.Common.{◌-◌, ◌≤◌}
 use Rattle.records.specs.Lists.{first_place}
 use Rattle.rules.specs.Queries.{has_tid}
-use Rattle.scheduler.proofs.OnQueries.{tid_found, tid_missing}
-use Rattle.scheduler.proofs.Searches.{search_on}
-use Rattle.scheduler.proofs.Arrays.{slots}
 use Rattle.scheduler.proofs.scheduler.QoSScheduler.task_index_for_tid.Given as goal
 
 abbrev pub invariant-loop-index : goal.invariant-loop-index

@@ -1,5 +1,4 @@
 -- `QoSScheduler::told` meets its contract: the answer is `Answer::done`'s. Assumes nothing.
-use Rattle.std.proofs.Common.{rules}
 use Rattle.scheduler.proofs.scheduler.QoSScheduler.told.Goals as goal
 
 pub returns : goal.returns

@@ -1,7 +1,6 @@
-use Rattle.std.proofs.Common.{◌+◌, ◌-◌, ◌*◌, ◌<◌, arith, rules}
-use Rattle.scheduler.specs.Scheduler.{abs}
+use Rattle.std.proofs.Common.{arith}
 use Rattle.scheduler.proofs.OnCores.{on_to_band, place_low, entry_low, on_to_place, test_found, test_none}
-use Rattle.scheduler.proofs.Seeking.{Seeking, seeking_first}
+use Rattle.scheduler.proofs.Seeking.{seeking_first}
 use Rattle.scheduler.proofs.Arrays.{ring_below}
 use Rattle.scheduler.proofs.scheduler.QoSScheduler.waits_before.Goals as goal
 

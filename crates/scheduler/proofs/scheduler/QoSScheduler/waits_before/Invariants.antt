@@ -1,9 +1,7 @@
 -- `QoSScheduler::waits_before` meets its contract: the loop seeks as `Seeking` says, in the bands before the holder's. Assumes nothing.
-use Rattle.std.proofs.Common.{◌+◌, ◌-◌, ◌*◌, ◌<◌, arith, rules}
+use Rattle.std.proofs.Common.{◌+◌, ◌-◌, ◌*◌, ◌<◌}
 use Rattle.scheduler.specs.Scheduler.{abs}
-use Rattle.scheduler.proofs.OnCores.{on_to_band, place_low, entry_low, on_to_place, test_found, test_none}
-use Rattle.scheduler.proofs.Seeking.{Seeking, seeking_first}
-use Rattle.scheduler.proofs.Arrays.{ring_below}
+use Rattle.scheduler.proofs.Seeking.{Seeking}
 use Rattle.scheduler.proofs.scheduler.QoSScheduler.waits_before.Given as goal
 
 abbrev pub invariant-loop-band : goal.invariant-loop-band

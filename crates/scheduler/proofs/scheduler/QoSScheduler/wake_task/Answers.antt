@@ -1,6 +1,5 @@
 -- `QoSScheduler::wake_task` meets its contract: each way out cites its law. Assumes nothing.
 use Rattle.std.proofs.Common.{sym, ◌∙◌, rules}
-use borrow.Author.Tests.{not-true, not-false}
 use Rattle.scheduler.proofs.OnSlots.{wake_past, wake_free, wake_other, wake_queued, wake_held}
 use Rattle.scheduler.proofs.scheduler.QoSScheduler.wake_task.Goals as goal
 
