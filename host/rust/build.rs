@@ -1,5 +1,5 @@
 //! Finds libtilesorrel.a for the linker, or makes it: the file that TILESORREL_ARCHIVE names; else the clone's own,
-//! target/staticlib/libtilesorrel.a; else what `rt staticlib tilesorrel` makes there. An archive that is there is taken as it
+//! target/staticlib/libtilesorrel.a; else what `tools/make archive` makes there. An archive that is there is taken as it
 //! is, also where the code is newer: `rt` makes it anew, and so does host/run.
 
 use std::env;
@@ -12,7 +12,7 @@ const ARCHIVE: &str = "libtilesorrel.a";
 /// Ends the build, and says what to do.
 fn failed(what: &str) -> ! {
     eprintln!("tilesorrel: {what}.");
-    eprintln!("Make the archive with 'rt staticlib tilesorrel' in the clone of Tilesorrel (docs/host.md), or name a");
+    eprintln!("Make the archive with 'tools/make archive' in the clone of Tilesorrel (docs/host.md), or name a");
     eprintln!("file that was made so: TILESORREL_ARCHIVE=/path/of/{ARCHIVE}");
     exit(1)
 }
@@ -27,10 +27,10 @@ fn make(clone: &Path) {
     if !clone.join("crates").join("tilesorrel").is_dir() {
         failed("there is no archive, and the package does not stand in a clone that could make it");
     }
-    match Command::new("rt").args(["staticlib", "tilesorrel"]).current_dir(clone).status() {
+    match Command::new(clone.join("tools").join("make")).arg("archive").status() {
         Ok(status) if status.success() => {}
-        Ok(_) => failed("'rt staticlib tilesorrel' failed"),
-        Err(error) => failed(&format!("there is no archive, and rt could not be run to make it: {error}")),
+        Ok(_) => failed("'tools/make archive' failed"),
+        Err(error) => failed(&format!("there is no archive, and tools/make could not be run to make it: {error}")),
     }
 }
 
