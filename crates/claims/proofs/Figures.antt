@@ -131,7 +131,7 @@ bytes_for v = answer_bytes (answered pick.None v)
 
 pub record Figures : Type 0 where
   -- ---- "Task record, queues, holders"
-  -- "A record is 47 bytes, multi-byte fields big_endian"
+  -- "A record is 47 bytes, multi-byte fields big-endian"
   pub record_length_lem : record_length ≡ 47
   pub big_endian_lem : bytes_of 2 (256 + 3) ≡ 1 ∷ 3 ∷ []
   pub big_endian_read : big_endian (1 ∷ 3 ∷ []) ≡ 256 + 3
