@@ -1,4 +1,5 @@
-// What a host kernel calls: a new image, and a frame on an image with its answer in a buffer; and any call on an image.
+// What a host kernel calls: a new image, and a frame on an image with its answer in a buffer; and any call on an image. The
+// entries that C links are the crate tilesorrel's.
 ghost use Rattle.std.specs.Prelude.{◌≡◌};
 ghost use Rattle.frames.specs.AcceptedImage.{AcceptedImage};
 ghost use Rattle.frames.specs.Host.{refusal_returned, on_image, call_on_image, first_image, host_new, hosted, host_step};
@@ -26,8 +27,7 @@ const REFUSED: u64 = 256;
 
 // The image of a new scheduler, for a host that begins: 0, or 256 and 7 where there is no room for it, or too much. Any bytes
 // will do. All IMAGE_BYTES of them are written; bytes of any other number are left as they were.
-#[unsafe(no_mangle)]
-pub extern "C" fn new_image(image: &mut [u8]) -> u64
+pub fn new_image(image: &mut [u8]) -> u64
     ensures { first_image result image.new ≡ host_new image.old }
 {
     if write_image(QoSScheduler::new(), image) {
@@ -41,8 +41,7 @@ pub extern "C" fn new_image(image: &mut [u8]) -> u64
 // image, frame and buffer will do. 7: the image does not have IMAGE_BYTES bytes, or the buffer has under ANSWER_MAX. 8: the
 // image is not accepted. 9: the bytes are no frame. After these, image and buffer are as they were. Else the image holds the
 // state after the call, as it was where the answer is a refusal; bytes of the buffer behind the answer stay.
-#[unsafe(no_mangle)]
-pub extern "C" fn step(image: &mut [u8], frame: &[u8], answer: &mut [u8]) -> u64
+pub fn step(image: &mut [u8], frame: &[u8], answer: &mut [u8]) -> u64
     ensures { hosted result image.new answer.new ≡ host_step image.old frame.now answer.old }
 {
     if answer.len() < ANSWER_MAX {
