@@ -73,9 +73,9 @@ impl QoSScheduler {
     }
 
     // Whether an entry that may use the core waits in an earlier band.
-    fn waits_before(self, qos: QoSClass, core: usize) -> bool
-        requires { Valid self }
-        ensures { result ≡ waits_before qos (abs self) core }
+    fn waits_before(&self, qos: QoSClass, core: usize) -> bool
+        requires { Valid self.now }
+        ensures { result ≡ waits_before qos (abs self.now) core }
     {
         let own = qos.code() as usize;
         let mut band = 0;
