@@ -10,8 +10,13 @@ ghost use Rattle.calls.specs.Program.{FeedsBlock};
 ghost use Rattle.frames.specs.Stream.{longest_answer, ValidStream};
 
 use frames::Stream;
-use libc::{STDERR_FILENO, STDIN_FILENO, STDOUT_FILENO};
 use scheduler::QoSScheduler;
+use std::io::Read;
+
+// The file descriptors of standard output and standard error.
+const STDOUT_FILENO: i32 = 1;
+
+const STDERR_FILENO: i32 = 2;
 
 // A stream, and whether all answers so far were written.
 #[derive(Clone, Copy)]
@@ -20,22 +25,21 @@ struct Progress {
     is_written: bool,
 }
 
-fn main() {
+fn main(rt: HostRuntime) {
     let mut stream = Stream::new(QoSScheduler::new());
+    let mut stdin = rt.stdin();
     let mut input = io::large_buffer();
     let mut out = io::large_buffer();
-    // A proved loop has to end, and nothing says that the input does: so it counts its turns down, from a number that no
-    // run uses up.
-    let mut turns = u64::MAX;
-    while 0 < turns {
-        turns -= 1;
-        let got = libc::read(STDIN_FILENO, &mut input);
-        let n = io::count(got, &input);
+    // A proved loop has to end, and nothing says that the input does: so it is given more turns than any run uses up.
+    for _ in 0..u64::MAX {
+        let got = stdin.read(&mut input);
+        let is_unread = got.is_err();
+        let n = got.unwrap_or(0);
         // a read that finds nothing is the end of the input; one that fails is not, so that a line which it may have cut is not
         // answered
-        let done = answer_block(stream, &input[..n], got == 0, &mut out);
-        if got <= 0 || !done.is_written {
-            report(got < 0, !done.is_written);
+        let done = answer_block(stream, &input[..n], n == 0 && !is_unread, &mut out);
+        if n == 0 || !done.is_written {
+            report(is_unread, !done.is_written);
             return;
         }
         let next = done.stream;
