@@ -3,7 +3,8 @@ ghost use Rattle.std.specs.Prelude.{[], ◌∷◌, ◌≡◌, ◌/◌, ◌<◌};
 ghost use Rattle.io.specs.Digits.{hex_digit_ascii};
 ghost use Rattle.text.specs.Text.{IsEmpty, Kept, Puts, PutsNumber, hex_text};
 
-use libc::STDOUT_FILENO;
+// The file descriptor of standard output.
+const STDOUT_FILENO: i32 = 1;
 
 // As many bytes as a line has room for.
 const LINE_MAX: usize = 1024;

@@ -1,7 +1,6 @@
 -- `read_line` meets its contract: each turn reads a byte. Assumes nothing.
 use mathlib.Core.Path.{◌≡◌}
 use Prim.Native.Nat.{◌-◌, ◌≤◌}
-use borrow.Author.Rules.{rules}
 use lib.ListN.{length}
 use Rattle.text.proofs.input.read_line.Given as goal
 

@@ -1,5 +1,4 @@
 -- `push` meets its contract: the byte is stored behind the text, or has no room. Assumes nothing.
-use borrow.Author.Rules.{rules}
 use Rattle.text.proofs.Pieces.{with_byte, without-room}
 use Rattle.text.proofs.line.Line.push.Goals as goal
 

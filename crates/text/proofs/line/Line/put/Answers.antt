@@ -1,9 +1,8 @@
 use mathlib.Core.List.{◌++◌}
-use mathlib.Core.Path.{◌≡◌, refl, sym, ap, ◌∙◌}
-use Prim.Native.Nat.{◌+◌, ◌-◌}
-use borrow.Author.Rules.{rules}
-use lib.ListN.{length, take, drop}
-use Rattle.text.specs.Text.{line_room, text_of, Kept}
+use mathlib.Core.Path.{refl, sym, ap, ◌∙◌}
+use Prim.Native.Nat.{◌+◌}
+use lib.ListN.{take, drop}
+use Rattle.text.specs.Text.{line_room, text_of}
 use Rattle.text.proofs.Pieces.{goes_on, ends, next_byte, none_left}
 use Rattle.text.proofs.line.Line.put.Goals as goal
 

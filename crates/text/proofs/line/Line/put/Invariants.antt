@@ -1,11 +1,9 @@
 -- `put` meets its contract: what is left of the bytes, put behind the line as it is, gives the whole. Assumes nothing.
 use mathlib.Core.List.{◌++◌}
-use mathlib.Core.Path.{◌≡◌, refl, sym, ap, ◌∙◌}
-use Prim.Native.Nat.{◌+◌, ◌-◌}
-use borrow.Author.Rules.{rules}
+use mathlib.Core.Path.{◌≡◌}
+use Prim.Native.Nat.{◌-◌}
 use lib.ListN.{length, take, drop}
 use Rattle.text.specs.Text.{line_room, text_of, Kept}
-use Rattle.text.proofs.Pieces.{goes_on, ends, next_byte, none_left}
 use Rattle.text.proofs.line.Line.put.Given as goal
 
 abbrev pub invariant-loop-k : goal.invariant-loop-k

@@ -1,10 +1,9 @@
 use mathlib.Core.List.{[], ◌∷◌, ◌++◌}
-use mathlib.Core.Path.{◌≡◌, refl, sym, ap, ◌∙◌, subst}
-use Prim.Native.Nat.{◌+◌, ◌-◌}
+use mathlib.Core.Path.{refl, sym, ap, ◌∙◌, subst}
+use Prim.Native.Nat.{◌+◌}
 use native.Mathlib.Omega.{arith}
-use borrow.Author.Rules.{rules}
-use lib.ListN.{length, take, drop}
-use Rattle.text.specs.Text.{line_room, text_of, Kept, Puts, hex_text}
+use lib.ListN.{take, drop}
+use Rattle.text.specs.Text.{line_room, text_of, Puts, hex_text}
 use Rattle.text.proofs.Pieces.{goes_on, ends, next_digits, no_digits_left}
 use Rattle.text.proofs.line.Line.put_hex.Goals as goal
 

@@ -1,12 +1,9 @@
 -- `put_hex` meets its contract: the digits of what is left of the bytes, put behind the line as it is, give the whole. Assumes nothing.
-use mathlib.Core.List.{[], ◌∷◌, ◌++◌}
-use mathlib.Core.Path.{◌≡◌, refl, sym, ap, ◌∙◌, subst}
-use Prim.Native.Nat.{◌+◌, ◌-◌}
-use native.Mathlib.Omega.{arith}
-use borrow.Author.Rules.{rules}
+use mathlib.Core.List.{◌++◌}
+use mathlib.Core.Path.{◌≡◌}
+use Prim.Native.Nat.{◌-◌}
 use lib.ListN.{length, take, drop}
-use Rattle.text.specs.Text.{line_room, text_of, Kept, Puts, hex_text}
-use Rattle.text.proofs.Pieces.{goes_on, ends, next_digits, no_digits_left}
+use Rattle.text.specs.Text.{line_room, text_of, Kept, hex_text}
 use Rattle.text.proofs.line.Line.put_hex.Given as goal
 
 abbrev pub invariant-loop-k : goal.invariant-loop-k
