@@ -4,11 +4,11 @@
 
 ghost use Rattle.queue.specs.Stored.{WellFormed};
 
-// The file descriptor of standard output.
-const STDOUT_FILENO: i32 = 1;
-
 use queue::{BandQueue, Pushed, Taken};
 use records::{MAX_TASKS, Slot, SlotOption};
+
+// The file descriptor of standard output.
+const STDOUT_FILENO: i32 = 1;
 
 fn main() {
     empty_queue();

@@ -1,6 +1,5 @@
 -- `fill` meets its contract: every push leaves a well-formed queue. Assumes nothing.
 use Prim.Native.Nat.{◌-◌}
-use borrow.Author.Rules.{rules}
 use Rattle.queue.specs.Stored.{WellFormed}
 use Rattle.queue_run.proofs.fill.Given as goal
 
