@@ -1,9 +1,11 @@
 // What the program prints: an answer or a value on a line of its own, after what was done or asked.
-use libc::STDOUT_FILENO;
 use records::SlotOption;
 use scheduler::{
     Answer, ContextSwitchTarget, CoreOption, PickOption, PlanOption, Status, TaskOption, Value,
 };
+
+// The file descriptor of standard output.
+const STDOUT_FILENO: i32 = 1;
 
 // A line with what was done, and the answer's three parts: status, pick and value.
 pub(crate) fn show_answer(what: &[u8], answer: Answer) {
