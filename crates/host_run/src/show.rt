@@ -1,7 +1,9 @@
 // What the program prints: what the host entry made of a frame, what was made of an image without one, a part of an image,
 // or yes or no, each on a line of its own.
 use frames::{HostError, ImageAnswer, ImageStatus, write_answer};
-use libc::STDOUT_FILENO;
+
+// The file descriptor of standard output.
+const STDOUT_FILENO: i32 = 1;
 
 // What a buffer is filled with before it is passed.
 pub(crate) const MARK: u8 = 170;

@@ -1,5 +1,7 @@
 // What the program prints: a part of an image as hexadecimal digits, or yes or no, each on a line of its own.
-use libc::STDOUT_FILENO;
+
+// The file descriptor of standard output.
+const STDOUT_FILENO: i32 = 1;
 
 // A line with what was asked, and yes or no.
 pub(crate) fn show_whether(what: &[u8], flag: bool) {

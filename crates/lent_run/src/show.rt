@@ -1,7 +1,9 @@
 // What the program prints.
 use frames::{ANSWER_MAX, write_answer};
-use libc::STDOUT_FILENO;
 use scheduler::Answer;
+
+// The file descriptor of standard output.
+const STDOUT_FILENO: i32 = 1;
 
 // What was done, which call it was, its answer as document 01 writes it, and whether the state is as it was before it.
 pub(crate) fn show_answer(what: &[u8], call: &[u8], answer: Answer, kept: bool) {

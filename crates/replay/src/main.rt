@@ -11,8 +11,11 @@ ghost use Rattle.replay.specs.Tallies.{is_name, Compares, Replays};
 ghost use Rattle.replay.specs.Comparing.{as_stored};
 
 use frames::Stream;
-use libc::{STDIN_FILENO, STDOUT_FILENO};
 use scheduler::QoSScheduler;
+
+// The file descriptors of standard input and standard output.
+const STDIN_FILENO: i32 = 0;
+const STDOUT_FILENO: i32 = 1;
 
 // No stored line is longer, and no answer's.
 const STORED_MAX: usize = 256;
@@ -65,7 +68,7 @@ fn read_line(line: &mut [u8]) -> usize
     let mut n = 0;
     while n < line.len() {
         let behind = n + 1;
-        if libc::read(STDIN_FILENO, &mut line[n..behind]) <= 0 {
+        if io::read_full(STDIN_FILENO, &mut line[n..behind]) == 0 {
             break;
         }
         n = behind;
