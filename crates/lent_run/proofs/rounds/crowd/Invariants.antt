@@ -1,5 +1,5 @@
 -- `crowd` meets its contract: every call leaves a valid scheduler. Assumes nothing.
-use Rattle.std.proofs.Common.{◌-◌, rules}
+use Rattle.std.proofs.Common.{◌-◌}
 use Rattle.scheduler.specs.Scheduler.{Valid}
 use Rattle.lent_run.proofs.rounds.crowd.Given as goal
 
