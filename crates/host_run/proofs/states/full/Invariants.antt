@@ -1,6 +1,5 @@
 -- `full` meets its contract: every call leaves a valid scheduler. Assumes nothing.
 use Prim.Native.Nat.{◌-◌}
-use borrow.Author.Rules.{rules}
 use Rattle.scheduler.specs.Scheduler.{Valid}
 use Rattle.host_run.proofs.states.full.Given as goal
 
