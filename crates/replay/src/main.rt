@@ -13,8 +13,10 @@ ghost use Rattle.replay.specs.Comparing.{as_stored};
 use frames::Stream;
 use scheduler::QoSScheduler;
 
-// The file descriptors of standard input and standard output.
+// The file descriptor of standard input.
 const STDIN_FILENO: i32 = 0;
+
+// The file descriptor of standard output.
 const STDOUT_FILENO: i32 = 1;
 
 // No stored line is longer, and no answer's.

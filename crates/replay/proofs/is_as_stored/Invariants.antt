@@ -1,8 +1,6 @@
 -- `is_as_stored` meets its contract: the loop keeps that what is left is alike. Assumes nothing.
-use Rattle.std.proofs.Common.{◌≡◌, ◌-◌, length, drop, refl, inl, inr, ⊎_elim, rules, eqb-true}
-use borrow.Author.Tests.{eqb-false, not-true, not-false}
+use Rattle.std.proofs.Common.{◌≡◌, ◌-◌, length, drop}
 use Rattle.replay.specs.Comparing.{as_stored}
-use Rattle.replay.proofs.Comparing.{unlike, goes_on, differs, ends, alike_by, apart_by}
 use Rattle.replay.proofs.is_as_stored.Given as goal
 
 abbrev pub invariant-loop-i : goal.invariant-loop-i

@@ -1,5 +1,5 @@
 -- `main` ends: its turns are counted down. Assumes nothing.
-use Rattle.std.proofs.Common.{◌≡◌, ◌≤◌, length, sym, length-take-le, rules}
+use Rattle.std.proofs.Common.{◌≡◌, ◌≤◌, length}
 use Rattle.frames.specs.Stream.{ValidStream}
 use Rattle.replay.proofs.main.Given as goal
 

@@ -1,5 +1,5 @@
 -- `read_line` meets its contract: each turn reads a byte. Assumes nothing.
-use Rattle.std.proofs.Common.{◌≡◌, ◌-◌, ◌≤◌, length, rules}
+use Rattle.std.proofs.Common.{◌≡◌, ◌-◌, ◌≤◌, length}
 use Rattle.replay.proofs.read_line.Given as goal
 
 abbrev pub invariant-loop-n : goal.invariant-loop-n
