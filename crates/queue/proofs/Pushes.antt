@@ -9,7 +9,7 @@ use lib.ListN.{length, set, length-set}
 use Rattle.records.specs.declared.ids.Slot.{Slot}
 use Rattle.queue.specs.declared.BandQueue.{BandQueue}
 use Rattle.queue.specs.Promises.{Push}
-use Rattle.queue.specs.Entries.{takes}
+use Rattle.queue.specs.Entries.{takes, pushed}
 use Rattle.queue.specs.Stored.{window, entries, WellFormed}
 use Rattle.queue.proofs.Entries.{takes-slot, pushed-taken, pushed-refused}
 use Rattle.queue.proofs.Ring.{window_store}
@@ -47,3 +47,10 @@ module _ (q : BandQueue) (slot : Slot) (good : WellFormed q) where
             ∙ sym (pushed-taken slot.0 (entries q) (taken room));
       };
     }
+
+-- the two parts of `push_full`, as the check can use them
+pub takes_full : (q : BandQueue) (slot : Slot) → WellFormed q → slot.0 < 64 → 64 ≤ q.len → takes slot.0 (entries q) ≡ false
+takes_full q slot good there stands = sym (push_full q slot good there stands).ok_is
+
+pub pushed_full : (q : BandQueue) (slot : Slot) → WellFormed q → slot.0 < 64 → 64 ≤ q.len → pushed slot.0 (entries q) ≡ entries q
+pushed_full q slot good there stands = sym (push_full q slot good there stands).queue_is.entries_are

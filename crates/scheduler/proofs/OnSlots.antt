@@ -61,6 +61,13 @@ module _ {s : QoSScheduler} (v : Valid s) {slot : Slot} {r : Reply} (past : 64 �
 
 -- ---- a slot of the table
 
+-- a Blocked task that no core holds is woken as it is enqueued
+pub wake_as_enqueue : (s : QoSScheduler) (slot : ℕ) → slot < 64 → not (task (abs s) slot).in_use ≡ false → is_state (task (abs s) slot).state Blocked ≡ true
+    → 64 ≤ first_place (λ (h : ℕ). eqb h slot) (abs s).holders → wake slot (abs s) ≡ enqueue slot (abs s)
+unfolding wake
+wake_as_enqueue s slot low used so none =
+    rw (lt-leb 64 slot low) (rw used (rw so (rw (le-ltb (first_place (λ (h : ℕ). eqb h slot) (abs s).holders) 64 none) refl)))
+
 module _ {s : QoSScheduler} (v : Valid s) {slot : Slot} (d : TaskControlBlock) (low : slot.0 < 64) where
   abbrev read : TaskControlBlock
   read = get_or s.tasks slot.0 d
@@ -117,9 +124,8 @@ module _ {s : QoSScheduler} (v : Valid s) {slot : Slot} (d : TaskControlBlock) (
 
     module _ (so : is_state read.state Blocked ≡ true) {core : ℕ} (core_is : core ≡ first_place (λ (h : ℕ). eqb h slot.0) s.current) where
       pub wake_queued : {r : Reply} → 64 ≤ core → Meets (Enqueue slot) s r → Meets (Wake slot) s r
-      unfolding wake abs
-      wake_queued none m =
-          meets_as m (rw there (rw (sym read_is) (rw so (rw (sym core_is) (rw (le-ltb core 64 none) refl)))))
+      unfolding abs
+      wake_queued none m = meets_as m (wake_as_enqueue s slot.0 low (rw (sym read_is) used) (rw (sym read_is) so) (rw (sym core_is) none))
 
       pub wake_held : {a : Answer} {t : TaskControlBlock} → core < 64 → t ≡ with_state read Running → a ≡ answered pick.None value.Nothing →
           Meets (Wake slot) s (record { answer = a; state = put_task s slot.0 t })

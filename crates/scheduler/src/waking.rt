@@ -117,6 +117,7 @@ impl QoSScheduler {
 
     // A Blocked task that some core still holds is Running again, with no queue entry; any other is enqueued. Refused for
     // a slot that is free or no slot of the table, and for a task that is not Blocked.
+    #[tactic(auto, using(crate::proofs::Arrays::record_at_lem, crate::proofs::OnSlots::wake_as_enqueue), unfolding(crate::specs::Scheduler::abs))]
     pub fn wake_task(mut self, slot: Slot) -> Reply
         requires { Valid self }
         ensures { Meets (Call.Wake slot) self result }

@@ -1,6 +1,6 @@
--- `QoSScheduler::wake_task` meets its contract: each way out cites its law. Assumes nothing.
-use Rattle.std.proofs.Common.{sym, ◌∙◌, rules}
-use Rattle.scheduler.proofs.OnSlots.{wake_past, wake_free, wake_other, wake_queued, wake_held}
+-- `QoSScheduler::wake_task` meets its contract: each way out cites its law; the check finds the one of a task that no core holds. Assumes nothing.
+use Rattle.std.proofs.Common.{sym, ◌∙◌, rules, arith}
+use Rattle.scheduler.proofs.OnSlots.{wake_past, wake_free, wake_other, wake_held}
 use Rattle.scheduler.proofs.scheduler.QoSScheduler.wake_task.Goals as goal
 
 pub returns-then-index-ge-MAX_TASKS : goal.returns-then-index-ge-MAX_TASKS
@@ -14,14 +14,8 @@ returns-then-not-is c =
     wake_other (search rules) _ (search rules) c.if-not-task.false
     (sym c.is.ensures ∙ c.if-not-is.true) c.refused-then-not-is.ensures
 
-pub returns-then-core_holding-ge-MAX_CPUS : goal.returns-then-core_holding-ge-MAX_CPUS
-returns-then-core_holding-ge-MAX_CPUS c =
-    wake_queued (search rules) _ (search rules) c.if-not-task.false
-    (sym c.is.ensures ∙ c.if-not-is.false)
-    c.core_holding.ensures c.if-core_holding-ge-MAX_CPUS.true c.enqueue_ready.ensures
-
 pub returns : goal.returns
 returns c =
     wake_held (search rules) _ (search rules) c.if-not-task.false
     (sym c.is.ensures ∙ c.if-not-is.false) c.core_holding.ensures
-    c.if-core_holding-ge-MAX_CPUS.false c.with_state.ensures c.done.ensures
+    (omega arith) c.with_state.ensures c.done.ensures
