@@ -21,7 +21,7 @@
 //!
 //! Calls on one image must come one after another, as `&mut` demands: keep it in a lock, and take the lock for each. A
 //! call uses the SSE2 registers and the red zone, and up to `STACK_BYTES` of stack. `tools/make archive` proves the
-//! library and makes target/staticlib/libtilesorrel.a, which needs nothing but memcpy; rustc finds it by
+//! library and makes target/staticlib/libtilesorrel.a, which needs nothing but memcpy and memset; rustc finds it by
 //! `-L native=target/staticlib`, and cargo by build.rs. docs/host.md says how to build and link it, what to call when and
 //! what to do about a refusal, and has the image; docs/frames.md has every frame and answer with an example.
 //!
