@@ -1,5 +1,5 @@
 -- `main` ends: its turns are counted down. Assumes nothing.
-use Rattle.std.proofs.Common.{◌≡◌, length, rules}
+use Rattle.std.proofs.Common.{◌≡◌, length}
 use Rattle.scheduler.specs.Scheduler.{Valid}
 use Rattle.script_run.proofs.main.Given as goal
 

@@ -1,5 +1,5 @@
 -- `operation_in` ends. Assumes nothing.
-use Rattle.std.proofs.Common.{◌≡◌, ◌-◌, length, rules}
+use Rattle.std.proofs.Common.{◌≡◌, ◌-◌, length}
 use Rattle.script_run.proofs.operation.operation_in.Given as goal
 
 abbrev pub invariant-loop-operation : goal.invariant-loop-operation

@@ -1,5 +1,5 @@
 -- `with_bytes` ends: no more bytes are read than there is room for. Assumes nothing.
-use Rattle.std.proofs.Common.{◌≡◌, ◌-◌, length, rules}
+use Rattle.std.proofs.Common.{◌≡◌, ◌-◌, length}
 use Rattle.script_run.proofs.operation.with_bytes.Given as goal
 
 abbrev pub invariant-loop-k : goal.invariant-loop-k

@@ -1,5 +1,5 @@
 -- `put` ends, and stores nothing past the space. Assumes nothing.
-use Rattle.std.proofs.Common.{◌≡◌, ◌-◌, length, rules}
+use Rattle.std.proofs.Common.{◌≡◌, ◌-◌, length}
 use Rattle.script_run.proofs.space.put.Given as goal
 
 abbrev pub invariant-loop-k : goal.invariant-loop-k

@@ -1,5 +1,5 @@
 -- `trimmed` hands on a part of the line. Assumes nothing.
-use Rattle.std.proofs.Common.{◌≤◌, length, rules}
+use Rattle.std.proofs.Common.{◌≤◌, length}
 use Rattle.script_run.proofs.words.trimmed.Given as goal
 
 abbrev pub invariant-loop-end : goal.invariant-loop-end
