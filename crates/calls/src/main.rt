@@ -51,8 +51,8 @@ fn main(rt: HostRuntime) {
 // the input, so the last block is empty.
 fn answer_block(stream: Stream, block: &[u8], last: bool, out: &mut [u8]) -> Progress
     requires valid_stream { ValidStream stream }
-    requires block_len { last ≡ true → length block.now ≡ 0 }
-    requires longest_answer_in_bounds { longest_answer ≤ length out.old }
+    requires last_is_empty { last ≡ true → length block.now ≡ 0 }
+    requires room { longest_answer ≤ length out.old }
     ensures { FeedsBlock last stream block.now result }
 {
     let mut stream = stream;

@@ -8,8 +8,8 @@ ghost use Rattle.frames.specs.Private.{IsNumber};
 // The number in `width` bytes from `at` on. Bytes past the end of the slice are not there: a number that runs over it is
 // read from those before.
 pub(crate) fn number(bytes: &[u8], at: usize, width: usize) -> u64
-    requires width_bound { at + width < 2 ^ 64 }
-    requires width_bound_2 { width ≤ 8 }
+    requires end_bound { at + width < 2 ^ 64 }
+    requires width_bound { width ≤ 8 }
     ensures { IsNumber at width bytes.now result }
 {
     if at + width <= bytes.len() {
@@ -23,7 +23,7 @@ pub(crate) fn number(bytes: &[u8], at: usize, width: usize) -> u64
 
 // The number in `width` bytes from `at` on, which are all there.
 fn whole_number(bytes: &[u8], at: usize, width: usize) -> u64
-    requires width_in_bounds { at + width ≤ length bytes.now }
+    requires in_bounds { at + width ≤ length bytes.now }
     requires width_bound { width ≤ 8 }
     ensures { IsNumber at width bytes.now result }
 {

@@ -80,8 +80,8 @@ fn put_queues(queues: [BandQueue; BAND_COUNT], out: &mut [u8])
 // A queue's length and its 64 places, from `at` on.
 fn put_queue(queue: BandQueue, out: &mut [u8], at: usize)
     requires well_formed { WellFormed queue }
-    requires queue_len_bound { length (entries queue) ≤ 64 }
-    requires queue_length_bound { at + queue_length < 2 ^ 64 }
+    requires len_bound { length (entries queue) ≤ 64 }
+    requires end_bound { at + queue_length < 2 ^ 64 }
     ensures { out.new ≡ sets out.old at (queue_bytes (entries queue)) }
 {
     let places = queue.places();

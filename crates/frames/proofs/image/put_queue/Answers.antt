@@ -4,5 +4,5 @@ use Rattle.frames.proofs.image.put_queue.Goals as goal
 
 pub returns : goal.returns
 returns c =
-    queue_put _ c.requires.queue_len_bound _ _ c.put_number.ensures c.len.ensures c.put_bytes.ensures
+    queue_put _ c.requires.len_bound _ _ c.put_number.ensures c.len.ensures c.put_bytes.ensures
     c.places-places.ensures

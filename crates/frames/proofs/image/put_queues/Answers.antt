@@ -9,19 +9,19 @@ pub put_queue-requires : goal.put_queue-requires
 put_queue-requires c =
     let pre = c.requires in
     let fits = queue_fits_lem _ pre.whole pre.short UserInteractive _ in
-    record { well_formed = fits.0; queue_len_bound = fits.1; queue_length_bound = omega arith }
+    record { well_formed = fits.0; len_bound = fits.1; end_bound = omega arith }
 
 pub put_queue-requires-2 : goal.put_queue-requires-2
 put_queue-requires-2 c =
     let pre = c.requires in
     let fits = queue_fits_lem _ pre.whole pre.short RealTimeIO _ in
-    record { well_formed = fits.0; queue_len_bound = fits.1; queue_length_bound = omega arith }
+    record { well_formed = fits.0; len_bound = fits.1; end_bound = omega arith }
 
 pub put_queue-requires-3 : goal.put_queue-requires-3
 put_queue-requires-3 c =
     let pre = c.requires in
     let fits = queue_fits_lem _ pre.whole pre.short Background _ in
-    record { well_formed = fits.0; queue_len_bound = fits.1; queue_length_bound = omega arith }
+    record { well_formed = fits.0; len_bound = fits.1; end_bound = omega arith }
 
 pub returns : goal.returns
 returns c =
