@@ -1,7 +1,7 @@
 //! The functions that bench/module made visible to the linker, and memory for the values that they take and give.
 //!
 //! Rattle passes a value that is too large for a register by its address, and gives one at an address that is passed
-//! first. A slice is passed as the address of its own address and length.
+//! first. A slice is passed as its address and its length.
 
 mod layout {
     include!(env!("BENCH_LAYOUT"));
@@ -21,29 +21,13 @@ extern "C" {
     #[link_name = "scheduler::scheduler::QoSScheduler::on_timer_tick_on_cpu_lent"]
     pub fn on_timer_tick_on_cpu_lent(answer: *mut u8, state: *mut u8, core: u64, elapsed: u32);
     #[link_name = "frames::decode::read_frame"]
-    pub fn read_frame(call: *mut u8, frame: *const Slice);
+    pub fn read_frame(call: *mut u8, frame: *const u8, frame_len: usize);
     #[link_name = "frames::read::read_image"]
-    pub fn read_image(read: *mut u8, image: *const Slice);
+    pub fn read_image(read: *mut u8, image: *const u8, image_len: usize);
     #[link_name = "frames::image::write_image"]
-    pub fn write_image(state: *mut u8, image: *const Slice) -> bool;
+    pub fn write_image(state: *mut u8, image: *mut u8, image_len: usize) -> bool;
     #[link_name = "frames::encode::write_answer"]
-    pub fn write_answer(answer: *mut u8, buffer: *const Slice) -> u64;
-}
-
-#[repr(C)]
-pub struct Slice {
-    address: *const u8,
-    length: usize,
-}
-
-impl Slice {
-    pub fn of(bytes: &[u8]) -> Slice {
-        Slice { address: bytes.as_ptr(), length: bytes.len() }
-    }
-
-    pub fn of_buffer(bytes: &mut [u8]) -> Slice {
-        Slice { address: bytes.as_mut_ptr(), length: bytes.len() }
-    }
+    pub fn write_answer(answer: *mut u8, buffer: *mut u8, buffer_len: usize) -> u64;
 }
 
 /// Memory for a value, filled with marks. There is more of it than the value needs, so that a value which is larger

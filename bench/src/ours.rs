@@ -1,7 +1,7 @@
 //! Our functions by value and lent, called as a program in Rattle calls them. Calls are read off frames before they are
 //! timed.
 
-use crate::module::{self, Room, Slice, ANSWER, CALL, CALL_OPTION, IMAGE_READ, REPLY, SPARE, STATE, WORD};
+use crate::module::{self, Room, ANSWER, CALL, CALL_OPTION, IMAGE_READ, REPLY, SPARE, STATE, WORD};
 use crate::step::{Frame, ANSWER_BYTES};
 use crate::{image, Wrong};
 use std::hint::black_box;
@@ -16,8 +16,9 @@ impl Calls {
     pub fn of(frames: &[Frame]) -> Calls {
         let mut words = vec![0; (frames.len() * CALL_OPTION + SPARE) / WORD];
         for (frame, place) in frames.iter().zip(words.chunks_mut(CALL_OPTION / WORD)) {
+            let bytes = frame.bytes();
             // SAFETY: the place has the size of what is given.
-            unsafe { module::read_frame(place.as_mut_ptr().cast(), &Slice::of(frame.bytes())) };
+            unsafe { module::read_frame(place.as_mut_ptr().cast(), bytes.as_ptr(), bytes.len()) };
         }
         Calls { words }
     }
@@ -48,7 +49,7 @@ impl Ours {
         let mut ours = Ours { state: Room::for_bytes(STATE), reply: Room::for_bytes(REPLY) };
         // SAFETY: there is room for what is given, and the state stands at its end.
         unsafe {
-            module::read_image(read.address(), &Slice::of(image));
+            module::read_image(read.address(), image.as_ptr(), image.len());
             ours.state.address().copy_from_nonoverlapping(read.address().add(IMAGE_READ - STATE), STATE);
         }
         ours
@@ -83,7 +84,7 @@ impl Ours {
     pub fn answer(&mut self) -> Vec<u8> {
         let mut buffer = vec![0; ANSWER_BYTES];
         // SAFETY: the answer stands at the front of the reply, and the buffer has room for the longest.
-        let length = unsafe { module::write_answer(self.reply.address(), &Slice::of_buffer(&mut buffer)) };
+        let length = unsafe { module::write_answer(self.reply.address(), buffer.as_mut_ptr(), buffer.len()) };
         buffer.truncate(length as usize);
         buffer
     }
@@ -91,7 +92,7 @@ impl Ours {
     pub fn image(&mut self) -> Vec<u8> {
         let mut image = vec![0; image::BYTES];
         // SAFETY: there is room for the whole image.
-        unsafe { module::write_image(self.state.address(), &Slice::of_buffer(&mut image)) };
+        unsafe { module::write_image(self.state.address(), image.as_mut_ptr(), image.len()) };
         image
     }
 

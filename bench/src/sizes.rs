@@ -2,7 +2,7 @@
 //! a state that does not stand where it should, our functions may do anything.
 
 use crate::frames::{Call, CREATE, PLAN, SYSTEM_TICKS_US, TICK};
-use crate::module::{self, Room, Slice, ANSWER, CALL, CALL_OPTION, IMAGE_READ, REPLY, STATE};
+use crate::module::{self, Room, ANSWER, CALL, CALL_OPTION, IMAGE_READ, REPLY, STATE};
 use crate::step::{Frame, Host};
 use crate::Wrong;
 
@@ -15,7 +15,7 @@ pub fn check() -> Result<(), Wrong> {
     host.answered(&Frame::of(&Call::new(CREATE, &[u64::from(TID), 0, 0, 0, 0])));
     let mut read = Room::for_bytes(IMAGE_READ);
     // SAFETY: there is room for far more than is given.
-    unsafe { module::read_image(read.address(), &Slice::of(&host.image)) };
+    unsafe { module::read_image(read.address(), host.image.as_ptr(), host.image.len()) };
     ends("IMAGE_READ", IMAGE_READ, &read)?;
     begins("IMAGE_READ less STATE", IMAGE_READ - STATE, &read)?;
 
@@ -39,8 +39,9 @@ pub fn check() -> Result<(), Wrong> {
 
 fn call(call: &Call) -> Room {
     let mut option = Room::for_bytes(CALL_OPTION);
+    let frame = Frame::of(call);
     // SAFETY: there is room for far more than is given.
-    unsafe { module::read_frame(option.address(), &Slice::of(Frame::of(call).bytes())) };
+    unsafe { module::read_frame(option.address(), frame.bytes().as_ptr(), frame.bytes().len()) };
     option
 }
 
