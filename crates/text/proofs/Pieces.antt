@@ -5,9 +5,9 @@ use Prim.Native.Nat.{ℕ, zero, suc, ◌+◌, ◌/◌, ◌%◌, ◌≤◌, ◌<�
 use native.Mathlib.Omega.{arith}
 use lib.ListN.{length, get_or, take, drop, set, length-set, length-append, drop_of_length-le}
 use lib.Seq.{length-take-le, take_all, take-append-le, take-suc-set, drop-cons}
-use Rattle.io.specs.Digits.{hex_digit_ascii}
+use Rattle.io.specs.Digits.{hex_digit_ascii, last_digits, IsDigitCount}
 use Rattle.text.specs.declared.line.Line.{Line}
-use Rattle.text.specs.Text.{line_room, text_of, Kept, Puts, hex_text}
+use Rattle.text.specs.Text.{line_room, text_of, Kept, Puts, PutsNumber, hex_text}
 
 -- what has no room is left out once or twice over
 take-over : (n : ℕ) (xs ys : List ℕ) → take n (take n xs ++ ys) ≡ take n (xs ++ ys)
@@ -75,3 +75,10 @@ none_left bytes k past = drop_of_length-le bytes past
 pub no_digits_left : (bytes : List ℕ) (k : ℕ) → length bytes ≤ k → hex_text (drop k bytes) ≡ []
 unfolding hex_text
 no_digits_left bytes k past = ap hex_text (none_left bytes k past)
+
+-- ---- a number
+
+pub number_put : {number places : ℕ} {text : List ℕ} {l r : Line} → IsDigitCount 10 1 number places → text ≡ last_digits 10 places number → Puts text l r
+    → PutsNumber number l r
+number_put {places = places} {l = l} fewest spelled puts =
+    record { kept = puts.kept; places = places; fewest = fewest; text_is = puts.text_is ∙ ap (λ (t : List ℕ). take line_room (text_of l ++ t)) spelled }
