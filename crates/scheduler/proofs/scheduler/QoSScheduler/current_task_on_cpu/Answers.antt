@@ -24,4 +24,4 @@ returns-in-Some c =
     c.holder_of-holder.ensures c.in-Some.is _
 
 pub offset_bounds-self-index : goal.offset_bounds-self-index
-offset_bounds-self-index c = omega (arith, (holder_below c.requires c.if-core-ge-MAX_CPUS.false _ c.holder_of-holder.ensures c.in-Some.is))
+offset_bounds-self-index c = omega (arith, holder_below c.requires c.if-core-ge-MAX_CPUS.false _ c.holder_of-holder.ensures c.in-Some.is)

@@ -36,7 +36,9 @@ take_at-taken-requires c =
     ring_below _ c.loop-band.invariant.1.0.whole _ _ (search rules)
 
 pub bounds-self-index-then-mask_permits : goal.bounds-self-index-then-mask_permits
-bounds-self-index-then-mask_permits c = let inv = c.loop-band.invariant in entry_low inv.1.0 inv.1.1 c.loop-band-test.true _ c.entry_at-entry.ensures _ c.in-Some.is
+bounds-self-index-then-mask_permits c =
+    let inv = c.loop-band.invariant in
+    entry_low inv.1.0 inv.1.1 c.loop-band-test.true _ c.entry_at-entry.ensures _ c.in-Some.is
 
 pub returns-then-mask_permits : goal.returns-then-mask_permits
 returns-then-mask_permits c =
@@ -76,13 +78,19 @@ returns c =
     c.choice_answer.ensures)
 
 pub offset_bounds-self-index : goal.offset_bounds-self-index
-offset_bounds-self-index c = omega (arith, (let inv = c.loop-band.invariant in entry_low inv.1.0 inv.1.1 c.loop-band-test.true _ c.entry_at-entry.ensures _ c.in-Some.is))
+offset_bounds-self-index c =
+    let inv = c.loop-band.invariant in
+    omega (arith, entry_low inv.1.0 inv.1.1 c.loop-band-test.true _ c.entry_at-entry.ensures _ c.in-Some.is)
 
 pub offset_bounds-self-index-then-mask_permits : goal.offset_bounds-self-index-then-mask_permits
-offset_bounds-self-index-then-mask_permits c = omega (arith, ((let inv = c.loop-band.invariant in entry_low inv.1.0 inv.1.1 c.loop-band-test.true _ c.entry_at-entry.ensures _ c.in-Some.is)))
+offset_bounds-self-index-then-mask_permits c =
+    let inv = c.loop-band.invariant in
+    omega (arith, entry_low inv.1.0 inv.1.1 c.loop-band-test.true _ c.entry_at-entry.ensures _ c.in-Some.is)
 
 pub overflow_cast-self : goal.overflow_cast-self
-overflow_cast-self c = omega (arith, ((let inv = c.loop-band.invariant in entry_low inv.1.0 inv.1.1 c.loop-band-test.true _ c.entry_at-entry.ensures _ c.in-Some.is)))
+overflow_cast-self c =
+    let inv = c.loop-band.invariant in
+    omega (arith, entry_low inv.1.0 inv.1.1 c.loop-band-test.true _ c.entry_at-entry.ensures _ c.in-Some.is)
 
 pub overflow_add-place : goal.overflow_add-place
 overflow_add-place c =

@@ -42,4 +42,4 @@ returns-in-Terminated c =
     c.in-Some.is _ c.in-Terminated.is c.refused-in-Terminated.ensures
 
 pub offset_bounds-self-index : goal.offset_bounds-self-index
-offset_bounds-self-index c = omega (arith, (holder_below c.requires c.if-core-ge-MAX_CPUS.false _ c.holder_of-previous.ensures c.in-Some.is))
+offset_bounds-self-index c = omega (arith, holder_below c.requires c.if-core-ge-MAX_CPUS.false _ c.holder_of-previous.ensures c.in-Some.is)

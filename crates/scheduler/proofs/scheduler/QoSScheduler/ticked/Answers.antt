@@ -112,13 +112,13 @@ returns c =
     c.args.form c.pick-2.ensures
 
 pub offset_bounds-self-index : goal.offset_bounds-self-index
-offset_bounds-self-index c = omega (arith, (holder_below c.requires c.if-core-ge-MAX_CPUS.false _ c.holder_of-previous.ensures c.in-Some.is))
+offset_bounds-self-index c = omega (arith, holder_below c.requires c.if-core-ge-MAX_CPUS.false _ c.holder_of-previous.ensures c.in-Some.is)
 
 pub offset_bounds-self-index-then-not-waits_before : goal.offset_bounds-self-index-then-not-waits_before
-offset_bounds-self-index-then-not-waits_before c = omega (arith, (holder_below c.requires c.if-core-ge-MAX_CPUS.false _ c.holder_of-previous.ensures c.in-Some.is))
+offset_bounds-self-index-then-not-waits_before c = omega (arith, holder_below c.requires c.if-core-ge-MAX_CPUS.false _ c.holder_of-previous.ensures c.in-Some.is)
 
 pub offset_bounds-self-index-then-is-2 : goal.offset_bounds-self-index-then-is-2
-offset_bounds-self-index-then-is-2 c = omega (arith, (holder_below c.requires c.if-core-ge-MAX_CPUS.false _ c.holder_of-previous.ensures c.in-Some.is))
+offset_bounds-self-index-then-is-2 c = omega (arith, holder_below c.requires c.if-core-ge-MAX_CPUS.false _ c.holder_of-previous.ensures c.in-Some.is)
 
 pub offset_bounds-self-index-2 : goal.offset_bounds-self-index-2
-offset_bounds-self-index-2 c = omega (arith, (holder_below c.requires c.if-core-ge-MAX_CPUS.false _ c.holder_of-previous.ensures c.in-Some.is))
+offset_bounds-self-index-2 c = omega (arith, holder_below c.requires c.if-core-ge-MAX_CPUS.false _ c.holder_of-previous.ensures c.in-Some.is)

@@ -50,7 +50,7 @@ returns c =
     c.code-own.ensures.is c.loop-band-test.false
 
 pub offset_bounds-self-index : goal.offset_bounds-self-index
-offset_bounds-self-index c = omega (arith, (entry_low c.requires c.loop-band.invariant.1 (omega arith) _ c.entry_at-entry.ensures _ c.in-Some.is))
+offset_bounds-self-index c = omega (arith, entry_low c.requires c.loop-band.invariant.1 (omega arith) _ c.entry_at-entry.ensures _ c.in-Some.is)
 
 pub overflow_add-place : goal.overflow_add-place
 overflow_add-place c = omega (arith, place_low c.requires c.loop-band.invariant.1 (omega arith) _ c.entry_at-entry.ensures _ c.in-Some.is)
