@@ -25,7 +25,7 @@ extern "C" {
     #[link_name = "frames::read::read_image"]
     pub fn read_image(read: *mut u8, image: *const u8, image_len: usize);
     #[link_name = "frames::image::write_image"]
-    pub fn write_image(state: *mut u8, image: *mut u8, image_len: usize) -> bool;
+    pub fn write_image(state: *mut u8, image: *mut u8, image_len: usize); // its result is in registers, and not looked at
     #[link_name = "frames::encode::write_answer"]
     pub fn write_answer(answer: *mut u8, buffer: *mut u8, buffer_len: usize) -> u64;
 }

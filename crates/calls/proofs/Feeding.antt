@@ -12,7 +12,7 @@ use Rattle.scheduler.specs.Scheduler.{abs}
 use Rattle.frames.specs.declared.stream.Fed.{Fed}
 use Rattle.frames.specs.declared.stream.Stream.{Stream}
 use Rattle.frames.specs.Lines.{lines, answers_to}
-use Rattle.frames.specs.Stream.{Begins, ValidStream, Feeds}
+use Rattle.frames.specs.Stream.{Begins, Feeds}
 use Rattle.claims.specs.TextClaim.{Feeding, NextOf, Feedings, stream_after, used_by, text_of, Finished}
 use Rattle.frames.proofs.Streams.{feeds_in, feeds_all}
 use Rattle.claims.proofs.Feedings.{feedings_append, stream_after_append, used_by_append, finished_append, feedings-answered}
@@ -22,17 +22,15 @@ use Rattle.calls.specs.Program.{FeedsBlock, BlockFed, FeedsAll, input_of}
 -- ---- one block
 
 pub record BlockGoing (last : Bool) (start : Stream) (block : List ℕ) (stream : Stream) (used : ℕ) : Type 0 where
-  pub valid : ValidStream stream
   pub feedings : List Feeding
   pub in_order : (more : List ℕ) → (last ≡ true → more ≡ []) → Feedings start (block ++ more) feedings
   pub stream_is : stream_after start feedings ≡ stream
   pub used_is : used_by feedings ≡ used
   pub within : used ≤ length block
 
-pub block_begin : (last : Bool) (start : Stream) (block : List ℕ) → ValidStream start → BlockGoing last start block start 0
+pub block_begin : (last : Bool) (start : Stream) (block : List ℕ) → BlockGoing last start block start 0
 unfolding Feedings stream_after used_by
-block_begin last start block valid = record {
-  valid = valid;
+block_begin last start block = record {
   feedings = [];
   in_order = λ more none. tt;
   stream_is = refl;
@@ -79,7 +77,6 @@ module _ {last : Bool} {start : Stream} {block : List ℕ} {stream : Stream} {us
   -- one go more
   pub turn : BlockGoing last start block r.stream (used + r.used)
   turn = record {
-    valid = feeds.valid;
     feedings = all;
     in_order = in_order_after;
     stream_is = stream_after_lem;
@@ -92,7 +89,6 @@ module _ {last : Bool} {start : Stream} {block : List ℕ} {stream : Stream} {us
       FeedsBlock last start block (record { stream = r.stream; is_written = is-written })
   unfolding all Finished
   done room = record {
-    valid = feeds.valid;
     feedings = all;
     in_order = in_order_after;
     stream_is = stream_after_lem;

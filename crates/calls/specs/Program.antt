@@ -2,14 +2,12 @@
 use Rattle.std.specs.Prelude.{Bool, true, false, ◌≡◌, ℕ, length}
 use mathlib.Core.List.{List, [], ◌∷◌, ◌++◌, map, flatten}
 use Rattle.frames.specs.declared.stream.Stream.{Stream}
-use Rattle.frames.specs.Stream.{ValidStream}
 use Rattle.claims.specs.TextClaim.{Feeding, Feedings, stream_after, used_by, Finished}
 use Rattle.calls.specs.declared.Progress.{Progress}
 
 -- The feedings are those of the block and of whatever follows it; nothing follows the last. The stream is what they hand back. Where all answers were
 -- written, all of the block is used, and the last block is fed to its end.
 pub record FeedsBlock (last : Bool) (stream : Stream) (block : List ℕ) (r : Progress) : Type 0 where
-  pub valid : ValidStream r.stream
   pub feedings : List Feeding
   pub in_order : (more : List ℕ) → (last ≡ true → more ≡ []) → Feedings stream (block ++ more) feedings
   pub stream_is : stream_after stream feedings ≡ r.stream

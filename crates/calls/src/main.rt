@@ -7,18 +7,16 @@
 
 ghost use Rattle.std.specs.Prelude.{true, ◌≡◌, ◌≤◌, length};
 ghost use Rattle.calls.specs.Program.{FeedsBlock};
-ghost use Rattle.frames.specs.Stream.{longest_answer, ValidStream};
+ghost use Rattle.frames.specs.Stream.{longest_answer};
 
 use frames::Stream;
 use scheduler::QoSScheduler;
 use std::io::Read;
 
-// The file descriptors of standard output and standard error.
-const STDOUT_FILENO: i32 = 1;
+// How much is read at a time, and the room for what is answered.
+const BLOCK: usize = 65_536;
 
-const STDERR_FILENO: i32 = 2;
-
-// A stream, and whether all answers so far were written.
+// A stream, and whether all answers so far were written: a flag and no Result, since the stream counts either way.
 #[derive(Clone, Copy)]
 struct Progress {
     stream: Stream,
@@ -28,8 +26,8 @@ struct Progress {
 fn main(rt: HostRuntime) {
     let mut stream = Stream::new(QoSScheduler::new());
     let mut stdin = rt.stdin();
-    let mut input = io::large_buffer();
-    let mut out = io::large_buffer();
+    let mut input = [0u8; BLOCK];
+    let mut out = [0u8; BLOCK];
     // A proved loop has to end, and nothing says that the input does: so it is given more turns than any run uses up.
     for _ in 0..u64::MAX {
         let got = stdin.read(&mut input);
@@ -37,20 +35,24 @@ fn main(rt: HostRuntime) {
         let n = got.unwrap_or(0);
         // a read that finds nothing is the end of the input; one that fails is not, so that a line which it may have cut is not
         // answered
-        let done = answer_block(stream, &input[..n], n == 0 && !is_unread, &mut out);
+        let done = answer_block(&rt, stream, &input[..n], n == 0 && !is_unread, &mut out);
         if n == 0 || !done.is_written {
-            report(is_unread, !done.is_written);
+            report(&rt, is_unread, !done.is_written);
             return;
         }
-        let next = done.stream;
-        stream = next;
+        stream = done.stream;
     }
 }
 
 // Feeds a block, in as many goes as its answers need, and writes what each gives. Only a read that found nothing is the end of
 // the input, so the last block is empty.
-fn answer_block(stream: Stream, block: &[u8], last: bool, out: &mut [u8]) -> Progress
-    requires valid_stream { ValidStream stream }
+fn answer_block(
+    rt: &impl Print,
+    stream: Stream,
+    block: &[u8],
+    last: bool,
+    out: &mut [u8],
+) -> Progress
     requires last_is_empty { last ≡ true → length block.now ≡ 0 }
     requires room { longest_answer ≤ length out.old }
     ensures { FeedsBlock last stream block.now result }
@@ -59,29 +61,23 @@ fn answer_block(stream: Stream, block: &[u8], last: bool, out: &mut [u8]) -> Pro
     let mut used = 0;
     loop {
         let fed = stream.feed(&block[used..], last, out);
-        let next = fed.stream;
-        stream = next;
+        stream = fed.stream;
         used += fed.used;
-        let written = fed.written;
-        let is_written = io::write_all(STDOUT_FILENO, &out[..written]);
+        let is_written = rt.write_all(&out[..fed.written]).is_ok();
         if !fed.is_full || !is_written {
             return Progress { stream, is_written };
         }
     }
 }
 
-// Says what went wrong, if something did.
-fn report(is_unread: bool, is_unwritten: bool) {
+// Says what went wrong, if something did. Where that can't be written either, there is nowhere left to say so.
+fn report(rt: &impl Eprint, is_unread: bool, is_unwritten: bool) {
     if is_unread {
-        io::write_all(
-            STDERR_FILENO,
-            b"calls: standard input could not be read to its end\n",
-        );
+        let _ = eprintln!(rt; "calls: standard input could not be read to its end");
     }
     if is_unwritten {
-        io::write_all(
-            STDERR_FILENO,
-            b"calls: an answer could not be written, and what follows it is not answered\n",
+        let _ = eprintln!(rt;
+            "calls: an answer could not be written, and what follows it is not answered"
         );
     }
 }

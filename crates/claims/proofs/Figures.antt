@@ -8,12 +8,10 @@ use mathlib.Core.Bool.{Bool, true, false}
 use mathlib.Core.List.{List, [], ◌∷◌, ◌++◌, map}
 use Prim.Native.Nat.{ℕ, ◌+◌, ◌-◌, ◌^◌}
 use lib.ListN.{length, replicate}
-use Rattle.records.specs.declared.band.BandOption.TheVariants as band
+use Rattle.std.specs.Prelude.{None, Some}
 use Rattle.records.specs.declared.band.QoSClass.TheVariants.{UserInteractive, RealTimeIO, Background}
 use Rattle.records.specs.declared.error.SchedError.TheVariants.{TableFull, QueueFull, NoSuchTask, AlreadyReady, AlreadyBlocked, NotBlocked}
 use Rattle.records.specs.declared.ids.Tid.{Tid}
-use Rattle.records.specs.declared.ids.SlotOption.TheVariants as slot
-use Rattle.records.specs.declared.state.StateOption.TheVariants as state
 use Rattle.records.specs.declared.state.ThreadState.TheVariants.{Ready, Running, Blocked, Terminated}
 use Rattle.records.specs.declared.task.TaskControlBlock.{TaskControlBlock}
 use Rattle.records.specs.Band.{band_code, coded_band, slice}
@@ -24,10 +22,6 @@ use Rattle.records.specs.ThreadState.{state_code, coded_state}
 use Rattle.records.specs.Task.{empty_record, created, terminated, blocked, picked}
 use Rattle.queue.specs.Entries.{full, takes, pushed, without, entry_at, taken_at}
 use Rattle.rules.specs.declared.answer.ContextSwitchTarget.TheVariants as target
-use Rattle.rules.specs.declared.answer.CoreOption.TheVariants as core
-use Rattle.rules.specs.declared.answer.PickOption.TheVariants as pick
-use Rattle.rules.specs.declared.answer.PlanOption.TheVariants as plan
-use Rattle.rules.specs.declared.answer.TaskOption.TheVariants as task
 use Rattle.rules.specs.declared.answer.Value.{Value}
 use Rattle.rules.specs.declared.answer.Value.TheVariants as value
 use Rattle.rules.specs.declared.call.Call.{Call}
@@ -43,7 +37,6 @@ use Rattle.rules.specs.Step.{step, run}
 use Rattle.rules.specs.Ticking.{ticked, tick, yield, handoff, planned}
 use Rattle.rules.specs.Waking.{create, affinity, terminate, block, enqueue, wake}
 use Rattle.rules.proofs.KCases.{slot as slot_of, make}
-use Rattle.frames.specs.declared.decode.CallOption.TheVariants.{None, Some}
 use Rattle.frames.specs.declared.refusal.HostError.TheVariants.{WrongLength, NotAccepted, NoFrame}
 use Rattle.frames.specs.AcceptedImage.{codes_fit, place_fits, band_fits}
 use Rattle.frames.specs.Answer.{record_widths, answer_bytes}
@@ -125,7 +118,7 @@ one_more_than n = (step (Tick 0 1) (with_micros new_state n)).state.micros
 
 -- the bytes of an answer with a value and no pick
 abbrev bytes_for : Value → List ℕ
-bytes_for v = answer_bytes (answered pick.None v)
+bytes_for v = answer_bytes (answered None v)
 
 -- ---- the table
 
@@ -141,11 +134,11 @@ pub record Figures : Type 0 where
   pub in_use_lem : map flag_number (false ∷ true ∷ []) ≡ 0 ∷ 1 ∷ []
   -- "band 1 (0 UserInteractive, 1 RealTimeIO, 2 Background)", written and read
   pub bands : map band_code (UserInteractive ∷ RealTimeIO ∷ Background ∷ []) ≡ 0 ∷ 1 ∷ 2 ∷ []
-  pub bands_read : map coded_band (0 ∷ 1 ∷ 2 ∷ 3 ∷ []) ≡ band.Some UserInteractive ∷ band.Some RealTimeIO ∷ band.Some Background ∷ band.None ∷ []
+  pub bands_read : map coded_band (0 ∷ 1 ∷ 2 ∷ 3 ∷ []) ≡ Some UserInteractive ∷ Some RealTimeIO ∷ Some Background ∷ None ∷ []
   -- "state 1 (0 Ready, 1 Running, 2 Blocked, 3 Terminated)", written and read
   pub states : map state_code (Ready ∷ Running ∷ Blocked ∷ Terminated ∷ []) ≡ 0 ∷ 1 ∷ 2 ∷ 3 ∷ []
   pub states_read : map coded_state (0 ∷ 1 ∷ 2 ∷ 3 ∷ 4 ∷ []) ≡
-      state.Some Ready ∷ state.Some Running ∷ state.Some Blocked ∷ state.Some Terminated ∷ state.None ∷ []
+      Some Ready ∷ Some Running ∷ Some Blocked ∷ Some Terminated ∷ None ∷ []
   -- "mask 8 (bit N permits core N)"
   pub mask_bits : map (permits (in8 4)) (1 ∷ 2 ∷ 3 ∷ 62 ∷ 63 ∷ []) ≡ false ∷ true ∷ false ∷ false ∷ true ∷ []
   -- "The empty record [..]: band 2, state 3, mask all ones, all else 0."
@@ -249,22 +242,22 @@ pub record Figures : Type 0 where
   -- "An answer is status (0 or the refusal), pick slot and pick band (ff ff for none), then the value: nothing for 01 to 05"
   pub answer_nothing : bytes_for value.Nothing ≡ 0 ∷ 255 ∷ 255 ∷ []
   pub answer_refused : answer_bytes (refusal NoSuchTask) ≡ 3 ∷ 255 ∷ 255 ∷ []
-  pub answer_picked : answer_bytes (answered (pick.Some (record { slot = slot_of 5; band = Background })) value.Nothing) ≡ 0 ∷ 5 ∷ 2 ∷ []
+  pub answer_picked : answer_bytes (answered (Some (record { slot = slot_of 5; band = Background })) value.Nothing) ≡ 0 ∷ 5 ∷ 2 ∷ []
   -- "a slot or core byte, ff for none"
-  pub answer_slot_lem : map bytes_for (value.Slot slot.None ∷ value.Slot (slot.Some (slot_of 5)) ∷ []) ≡ (0 ∷ 255 ∷ 255 ∷ 255 ∷ []) ∷ (0 ∷ 255 ∷ 255 ∷ 5 ∷ []) ∷ []
-  pub answer_core : map bytes_for (value.Core core.None ∷ value.Core (core.Some 5) ∷ []) ≡ (0 ∷ 255 ∷ 255 ∷ 255 ∷ []) ∷ (0 ∷ 255 ∷ 255 ∷ 5 ∷ []) ∷ []
+  pub answer_slot_lem : map bytes_for (value.Slot None ∷ value.Slot (Some (slot_of 5)) ∷ []) ≡ (0 ∷ 255 ∷ 255 ∷ 255 ∷ []) ∷ (0 ∷ 255 ∷ 255 ∷ 5 ∷ []) ∷ []
+  pub answer_core : map bytes_for (value.Core None ∷ value.Core (Some 5) ∷ []) ≡ (0 ∷ 255 ∷ 255 ∷ 255 ∷ []) ∷ (0 ∷ 255 ∷ 255 ∷ 5 ∷ []) ∷ []
   -- "for plans 00, or 01, previous byte (ff none), target byte (ff idle), cr3 8 (0 if idle)"
-  pub answer_stay : bytes_for (value.Plan plan.None) ≡ 0 ∷ 255 ∷ 255 ∷ 0 ∷ []
-  pub answer_idle : bytes_for (value.Plan (plan.Some (record { prev_task_idx = slot.Some (slot_of 5); target = target.Idle }))) ≡
+  pub answer_stay : bytes_for (value.Plan None) ≡ 0 ∷ 255 ∷ 255 ∷ 0 ∷ []
+  pub answer_idle : bytes_for (value.Plan (Some (record { prev_task_idx = Some (slot_of 5); target = target.Idle }))) ≡
       0 ∷ 255 ∷ 255 ∷ 1 ∷ 5 ∷ 255 ∷ 0 ∷ 0 ∷ 0 ∷ 0 ∷ 0 ∷ 0 ∷ 0 ∷ 0 ∷ []
-  pub answer_switch : bytes_for (value.Plan (plan.Some (record { prev_task_idx = slot.None; target = target.Task (slot_of 6) (2 ^ 56 + 8) }))) ≡
+  pub answer_switch : bytes_for (value.Plan (Some (record { prev_task_idx = None; target = target.Task (slot_of 6) (2 ^ 56 + 8) }))) ≡
       0 ∷ 255 ∷ 255 ∷ 1 ∷ 255 ∷ 6 ∷ 1 ∷ 0 ∷ 0 ∷ 0 ∷ 0 ∷ 0 ∷ 0 ∷ 8 ∷ []
   -- "00 or 01 for 0b"
   pub answer_flag : map bytes_for (value.Flag false ∷ value.Flag true ∷ []) ≡ (0 ∷ 255 ∷ 255 ∷ 0 ∷ []) ∷ (0 ∷ 255 ∷ 255 ∷ 1 ∷ []) ∷ []
   -- "00, or 01 and the record, for 0d, 0e"
-  pub answer_no_task : bytes_for (value.Task task.None) ≡ 0 ∷ 255 ∷ 255 ∷ 0 ∷ []
-  pub answer_task : paper (answered pick.None (value.Task (task.Some sample))) ≡ 0 ∷ 255 ∷ 255 ∷ 1 ∷ 10 ∷ 1 ∷ 0 ∷ 11 ∷ 12 ∷ 13 ∷ 14 ∷ 15 ∷ 16 ∷ 1 ∷ []
-  pub answer_task_length : length (bytes_for (value.Task (task.Some sample))) ≡ 3 + 1 + 47
+  pub answer_no_task : bytes_for (value.Task None) ≡ 0 ∷ 255 ∷ 255 ∷ 0 ∷ []
+  pub answer_task : paper (answered None (value.Task (Some sample))) ≡ 0 ∷ 255 ∷ 255 ∷ 1 ∷ 10 ∷ 1 ∷ 0 ∷ 11 ∷ 12 ∷ 13 ∷ 14 ∷ 15 ∷ 16 ∷ 1 ∷ []
+  pub answer_task_length : length (bytes_for (value.Task (Some sample))) ≡ 3 + 1 + 47
   -- "8 bytes for 0f"
   pub answer_micros : bytes_for (value.Micros (2 ^ 56 + 8)) ≡ 0 ∷ 255 ∷ 255 ∷ 1 ∷ 0 ∷ 0 ∷ 0 ∷ 0 ∷ 0 ∷ 0 ∷ 8 ∷ []
   -- which of these each call has: 00 on 63 tasks and on 64; then 01 to 10 for slots and cores that there are

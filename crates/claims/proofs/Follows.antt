@@ -4,23 +4,21 @@ use mathlib.Core.Path.{◌≡◌, refl, sym, ap, ◌∙◌}
 use mathlib.Core.List.{List, [], ◌∷◌, ◌++◌, append_assoc, map-append, map-eq-nil_iff, flat_map}
 use native.Mathlib.Omega.{arith}
 use lib.ListN.{length}
+use Rattle.std.specs.Prelude.{Option, None, Some}
 use Rattle.rules.specs.declared.call.Call.{Call}
 use Rattle.rules.specs.State.{State}
 use Rattle.rules.specs.Step.{run}
 use Rattle.scheduler.specs.declared.scheduler.QoSScheduler.{QoSScheduler}
-use Rattle.scheduler.specs.Scheduler.{abs, Valid}
-use Rattle.frames.specs.declared.decode.CallOption.{CallOption}
-use Rattle.frames.specs.declared.decode.CallOption.TheVariants.{None, Some}
-use Rattle.frames.specs.ReadWrite.{ReadAs}
+use Rattle.scheduler.specs.Scheduler.{abs}
 use Rattle.frames.specs.Lines.{said}
 use Rattle.claims.specs.History.{Made, History, left, calls_of}
-use Rattle.claims.proofs.Histories.{valid-left, left_append, history_append, left_is, answers_from, answers_are, every_list_happens}
+use Rattle.claims.proofs.Histories.{left_append, history_append, left_is, answers_from, answers_are, every_list_happens}
 use Rattle.claims.specs.Requests.{Protocol, call_in, calls_among, NextCalls, Follows, Asks}
 use Rattle.claims.specs.Demand3.{Start, start_state}
-use Rattle.claims.proofs.Demand3.{start_as, demand3}
+use Rattle.claims.proofs.Demand3.{start_is, demand3}
 
 -- a frame's call, if there is one
-pub run-said : (c : CallOption) (s : State) → run (call_in c) s ≡ (said c s).state
+pub run-said : (c : Option Call) (s : State) → run (call_in c) s ≡ (said c s).state
 unfolding run
 run-said None s = refl
 run-said (Some call) s = refl
@@ -43,13 +41,13 @@ module _ {A : Type 0} (p : Protocol A) where
     history : History s made
     follows : Follows p s requests made
 
-  follow : (s : QoSScheduler) → Valid s → (requests : List A) → Chain (abs s) requests → Following s requests
+  follow : (s : QoSScheduler) (requests : List A) → Chain (abs s) requests → Following s requests
   unfolding Chain History Follows
-  follow s v [] chain = record { made = []; history = tt; follows = refl }
-  follow s v (a ∷ rest) (told, chain) =
-      let (now, (h, calls_are)) = every_list_happens s v (p.asked a) in
+  follow s [] chain = record { made = []; history = tt; follows = refl }
+  follow s (a ∷ rest) (told, chain) =
+      let (now, (h, calls_are)) = every_list_happens s (p.asked a) in
       let here : abs (left s now) ≡ run (p.asked a) (abs s) = left_is s now h ∙ ap (λ (l : List Call). run l (abs s)) calls_are in
-      let later : Following (left s now) rest = follow (left s now) (valid-left s v now h) rest (rw here chain) in
+      let later : Following (left s now) rest = follow (left s now) rest (rw here chain) in
       record {
         made = now ++ later.made;
         history = history_append s now later.made h later.history;
@@ -104,8 +102,7 @@ module _ {A : Type 0} (p : Protocol A) where
   -- from a start, with all that demand 3 claims
   pub asks : {s : QoSScheduler} (start : Start s) (requests : List A) → Chain (start_state start) requests → Asks p (start_state start) s requests
   asks {s} start requests chain =
-      let is : ReadAs (start_state start) s = start_as start in
-      let f : Following s requests = follow s is.valid requests (rw is.state_is chain) in
+      let f : Following s requests = follow s requests (rw (start_is start) chain) in
       record {
         made = f.made;
         history = f.history;

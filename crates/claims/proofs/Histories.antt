@@ -1,18 +1,11 @@
--- Demands 2 and 3 on the code: every history from a valid scheduler is as `CodeClaim` says, by the contracts of its calls and by demand 3 on
--- the rules. Every accepted state, its numbers of any size, is held by some valid scheduler, so there is a new one, and every list of calls has
--- a history. Assumes nothing.
+-- Demands 2 and 3 on the code: every history is as `CodeClaim` says, by the contracts of its calls and by demand 3 on the rules. Every accepted
+-- state, its numbers of any size, is held by some scheduler, so there is a new one, and every list of calls has a history. Assumes nothing.
 use mathlib.Core.Path.{◌≡◌, refl, sym, ap, ◌∙◌, subst}
 use mathlib.Core.List.{List, [], ◌∷◌, ◌++◌, map}
 use Prim.Native.Nat.{ℕ}
-use Rattle.records.specs.declared.band.QoSClass.{QoSClass}
-use Rattle.records.specs.declared.band.QoSClass.TheVariants.{UserInteractive, RealTimeIO, Background}
-use Rattle.queue.specs.declared.BandQueue.{BandQueue}
-use Rattle.queue.specs.Stored.{Holds}
-use Rattle.queue.proofs.Stored as ring
 use Rattle.rules.specs.declared.answer.Answer.{Answer}
 use Rattle.rules.specs.declared.call.Call.{Call}
-use Rattle.rules.specs.State.{State, new_state, queue}
-use Rattle.rules.specs.Accepted.{Accepted}
+use Rattle.rules.specs.State.{State, new_state}
 use Rattle.rules.specs.Step.{step, run}
 use Rattle.rules.specs.Took.{Carries}
 use Rattle.rules.specs.Stretch.{Event, events, breaks, picks}
@@ -23,18 +16,13 @@ use Rattle.rules.proofs.Stretches.{longest}
 use Rattle.rules.proofs.Waiting.{rules_demand3}
 use Rattle.scheduler.specs.declared.scheduler.QoSScheduler.{QoSScheduler}
 use Rattle.scheduler.specs.declared.scheduler.Reply.{Reply}
-use Rattle.scheduler.specs.Scheduler.{abs, Valid, IsNew, Meets, MeetsLent}
-use Rattle.scheduler.proofs.Arrays.{three_hold}
-use Rattle.scheduler.proofs.Builders.{stored_as, HoldsState, stored_as_lem, holds-valid}
+use Rattle.scheduler.specs.Scheduler.{abs, Meets, MeetsLent}
+use Rattle.scheduler.proofs.Arrays.{valid}
+use Rattle.scheduler.proofs.Builders.{stored_as}
 use Rattle.claims.specs.History.{Made, History, MadeEither, by_value, lent, Mixed, made_of, left, calls_of, answers_of}
 use Rattle.claims.specs.History.{happened, stretch_in, outcome_of, CodePoint, CodeClaim}
 
 -- ---- what a history leaves, and where it is cut
-
-pub valid-left : (s : QoSScheduler) → Valid s → (made : List Made) → History s made → Valid (left s made)
-unfolding History left
-valid-left s v [] h = v
-valid-left s v (a ∷ rest) h = valid-left a.reply.state h.0.valid rest h.1
 
 pub left_append : (s : QoSScheduler) (a b : List Made) → left s (a ++ b) ≡ left (left s a) b
 unfolding left
@@ -56,7 +44,6 @@ history-cut s (m ∷ a) b h =
 -- schedulers that hold the same state have the same replies to a call, and so the same histories
 meets-alike : {call : Call} {s t : QoSScheduler} {r : Reply} → abs s ≡ abs t → Meets call s r → Meets call t r
 meets-alike {call} same m = record {
-  valid = m.valid;
   answer_is = m.answer_is ∙ ap (λ (u : State). (step call u).answer) same;
   state_is = m.state_is ∙ ap (λ (u : State). (step call u).state) same;
 }
@@ -116,18 +103,18 @@ next-meets s next h a more is = (subst (History s) is h).0
 -- ---- demand 3
 
 -- what is claimed of the rules at a point, told of the scheduler there
-rules_there : (s : QoSScheduler) → Valid s → (past next : List Made) → History s past → Point (abs (left s past)) (calls_of next)
-rules_there s v past next h =
-    rw (left_is s past h) (rules_demand3 (abs s) v.accepted (calls_of past ++ calls_of next) (calls_of past) (calls_of next) refl)
+rules_there : (s : QoSScheduler) (past next : List Made) → History s past → Point (abs (left s past)) (calls_of next)
+rules_there s past next h =
+    rw (left_is s past h) (rules_demand3 (abs s) (valid s) (calls_of past ++ calls_of next) (calls_of past) (calls_of next) refl)
 
-code_point : (s : QoSScheduler) → Valid s → (past next : List Made) → History s past → History (left s past) next →
+code_point : (s : QoSScheduler) (past next : List Made) → History s past → History (left s past) next →
     CodePoint (abs s) (calls_of past) (left s past) next
-code_point s v past next before after =
+code_point s past next before after =
     let here : QoSScheduler = left s past in
-    let rules : Point (abs here) (calls_of next) = rules_there s v past next before in
+    let rules : Point (abs here) (calls_of next) = rules_there s past next before in
     let meets : (a : Made) (more : List Made) → next ≡ a ∷ more → Meets a.call here a.reply = next-meets here next after in
     record {
-      valid = valid-left s v past before;
+      accepted = valid here;
       states = left_is s past before;
       answers = λ a more is. (meets a more is).answer_is ∙ ap (λ (t : State). (step a.call t).answer) (left_is s past before);
       carried = λ a more is.
@@ -137,47 +124,31 @@ code_point s v past next before after =
       waiting = λ x ready. rw (happened-is here next after) (rules.waiting x ready);
     }
 
-pub code_demand3 : (s : QoSScheduler) → Valid s → (made : List Made) → History s made → CodeClaim (abs s) s made
-code_demand3 s v made h past next cut =
+pub code_demand3 : (s : QoSScheduler) (made : List Made) → History s made → CodeClaim (abs s) s made
+code_demand3 s made h past next cut =
     let parts : History s past × History (left s past) next = history-cut s past next (subst (History s) (sym cut) h) in
-    code_point s v past next parts.0 parts.1
+    code_point s past next parts.0 parts.1
 
 -- X's stretch in a history is as long as can be
 pub stretch_in-longest : (x : ℕ) (s : QoSScheduler) (next : List Made) → Longest (breaks x) (picks x) (happened s next) (stretch_in x s next)
 stretch_in-longest x s next = longest (breaks x) (picks x) (happened s next)
 
--- ---- every accepted state is held by some valid scheduler, and every list of calls has a history
+-- ---- every accepted state is held by some scheduler, and every list of calls has a history
 
--- each band's entries in a ring of their own, all else as it is
-module _ (t : State) (a : Accepted t) where
-  band_stored : (band : QoSClass) → (q : BandQueue) × Holds q (queue t band)
-  band_stored band = ring.stored (queue t band) (a.lengths band)
-
-  abbrev storing : QoSScheduler
-  storing = stored_as t ((band_stored UserInteractive).0 ∷ (band_stored RealTimeIO).0 ∷ (band_stored Background).0 ∷ [])
-
-  storing_holds : HoldsState storing t
-  storing_holds = stored_as_lem t (three_hold (band_stored UserInteractive).1 (band_stored RealTimeIO).1 (band_stored Background).1)
-
-  pub stored : (s : QoSScheduler) × (Valid s × (abs s ≡ t))
-  stored = (storing, (holds-valid storing_holds a, storing_holds.state_is))
-
-pub a_new_one : (s : QoSScheduler) × IsNew s
-a_new_one =
-    let s : (s : QoSScheduler) × (Valid s × (abs s ≡ new_state)) = stored new_state new-accepted in
-    (s.0, record { valid = s.1.0; state_is = s.1.1 })
+pub a_new_one : (s : QoSScheduler) × (abs s ≡ new_state)
+a_new_one = stored_as new_state new-accepted
 
 -- every call has a reply that keeps its contract
-pub a_reply : (s : QoSScheduler) → Valid s → (call : Call) → (r : Reply) × Meets call s r
-a_reply s v call =
+pub a_reply : (s : QoSScheduler) (call : Call) → (r : Reply) × Meets call s r
+a_reply s call =
     let end : State = (step call (abs s)).state in
-    let t : (t : QoSScheduler) × (Valid t × (abs t ≡ end)) = stored end (call-accepted call (abs s) v.accepted) in
-    (record { answer = (step call (abs s)).answer; state = t.0 }, record { valid = t.1.0; answer_is = refl; state_is = t.1.1 })
+    let t : (t : QoSScheduler) × (abs t ≡ end) = stored_as end (call-accepted call (abs s) (valid s)) in
+    (record { answer = (step call (abs s)).answer; state = t.0 }, record { answer_is = refl; state_is = t.1 })
 
-pub every_list_happens : (s : QoSScheduler) → Valid s → (calls : List Call) → (made : List Made) × (History s made × (calls_of made ≡ calls))
+pub every_list_happens : (s : QoSScheduler) (calls : List Call) → (made : List Made) × (History s made × (calls_of made ≡ calls))
 unfolding History
-every_list_happens s v [] = ([], (tt, refl))
-every_list_happens s v (call ∷ calls) =
-    let first : (r : Reply) × Meets call s r = a_reply s v call in
-    let later : (made : List Made) × (History first.0.state made × (calls_of made ≡ calls)) = every_list_happens first.0.state first.1.valid calls in
+every_list_happens s [] = ([], (tt, refl))
+every_list_happens s (call ∷ calls) =
+    let first : (r : Reply) × Meets call s r = a_reply s call in
+    let later : (made : List Made) × (History first.0.state made × (calls_of made ≡ calls)) = every_list_happens first.0.state calls in
     (record { call = call; reply = first.0 } ∷ later.0, ((first.1, later.1.0), ap (λ (l : List Call). call ∷ l) later.1.1))

@@ -7,6 +7,7 @@ use Prim.Native.Nat.{ℕ, ◌≤◌}
 use borrow.Author.Tests.{ltb-true, ltb-false}
 use lib.Dec.{ltb}
 use lib.ListN.{length}
+use Rattle.std.specs.Prelude.{Option, None, Some}
 use Rattle.records.proofs.Cases.{by_if}
 use Rattle.rules.specs.declared.call.Call.{Call}
 use Rattle.rules.specs.State.{State}
@@ -14,8 +15,6 @@ use Rattle.rules.specs.Step.{step, run}
 use Rattle.rules.specs.Stretch.{events}
 use Rattle.rules.proofs.Stretches.{run_append}
 use Rattle.scheduler.specs.declared.scheduler.QoSScheduler.{QoSScheduler}
-use Rattle.frames.specs.declared.decode.CallOption.{CallOption}
-use Rattle.frames.specs.declared.decode.CallOption.TheVariants.{None, Some}
 use Rattle.frames.specs.declared.refusal.HostError.{HostError}
 use Rattle.frames.specs.declared.refusal.HostError.TheVariants.{WrongLength, NoFrame}
 use Rattle.frames.specs.AcceptedImage.{AcceptedImage}
@@ -31,7 +30,8 @@ use Rattle.frames.proofs.StatesFit.{image-fits, image_has_image, frame-image}
 use Rattle.frames.proofs.Hosts.{short-step, accepted_step}
 use Rattle.claims.specs.Requests.{call_in, calls_among, AskedPoint, Asks}
 use Rattle.claims.specs.HostClaim.{HostCall, HostCalls, image_left, refusal_to, by_host, HostClaim}
-use Rattle.claims.specs.Demand3.{ReadFrom, from_image}
+use Rattle.frames.specs.ReadWrite.{ReadAs}
+use Rattle.claims.specs.Demand3.{from_image}
 use Rattle.claims.proofs.Demand3.{a_reading}
 use Rattle.claims.proofs.Histories.{answers_from}
 use Rattle.claims.proofs.Follows.{run-said, Chain, asks}
@@ -63,7 +63,7 @@ module _ (image : List ℕ) (a : AcceptedImage image) (h : HostCall) where
     image_is = rw is;
   }
 
-  called : (c : CallOption) → ltb (length h.buffer) answer_room ≡ false → h.got ≡ host_called c image h.buffer → After (call_in c)
+  called : (c : Option Call) → ltb (length h.buffer) answer_room ≡ false → h.got ≡ host_called c image h.buffer → After (call_in c)
   called None room is = untouched NoFrame (rw room) is
   called (Some call) room is = answered call (ltb-false (length h.buffer) answer_room room) is
 
@@ -115,11 +115,11 @@ leaves image a (h ∷ past) ((bytes, is), hc) =
 
 pub host_demand3 : (image : List ℕ) → AcceptedImage image → (calls : List HostCall) → HostCalls image calls → HostClaim image calls
 host_demand3 image a calls hc =
-    let s : (s : QoSScheduler) × ReadFrom image s = a_reading image a in
+    let s : (s : QoSScheduler) × ReadAs image s = a_reading image a in
     let whole : Asks by_host (state_at image) s.0 calls = asks by_host (from_image image s.1) calls (hosts_chain image a calls hc) in
     record {
       scheduler = s.0;
-      read_from = s.1;
+      read_as = s.1;
       asks = whole;
       points = λ past next cut.
           let there : Holding (run (calls_among by_host past) (state_at image)) (image_left image past) =

@@ -9,7 +9,8 @@ use Rattle.rules.specs.State.{State, new_state}
 use Rattle.rules.specs.Step.{step, run}
 use Rattle.scheduler.specs.declared.scheduler.QoSScheduler.{QoSScheduler}
 use Rattle.scheduler.specs.declared.scheduler.Reply.{Reply}
-use Rattle.scheduler.specs.Scheduler.{abs, Valid, Meets}
+use Rattle.scheduler.specs.Scheduler.{abs, Meets}
+use Rattle.scheduler.proofs.Arrays.{valid}
 use Rattle.frames.specs.AcceptedImage.{AcceptedImage}
 use Rattle.frames.specs.Fits.{FitsCall, HasImage}
 use Rattle.frames.specs.Image.{state_at, FitsImage}
@@ -31,6 +32,6 @@ pub image_reached : (image : List ℕ) (calls : List Call) → AcceptedImage ima
 image_reached image calls a = reached_image (state_at image) calls (image_has_image image a)
 
 -- by a call that keeps its contract, whose numbers fit
-pub meets-image : (call : Call) (s : QoSScheduler) (r : Reply) → Meets call s r → Valid s → FitsCall call → FitsImage (abs s) → HasImage (abs r.state)
-meets-image call s r m v fit f =
-    has_image (abs r.state) m.valid.accepted (subst FitsImage (sym m.state_is) (kept-fits call (abs s) v.accepted fit f))
+pub meets-image : (call : Call) (s : QoSScheduler) (r : Reply) → Meets call s r → FitsCall call → FitsImage (abs s) → HasImage (abs r.state)
+meets-image call s r m fit f =
+    has_image (abs r.state) (valid r.state) (subst FitsImage (sym m.state_is) (kept-fits call (abs s) (valid s) fit f))

@@ -3,18 +3,18 @@
 use mathlib.Core.Path.{◌≡◌, refl, sym, ap, subst}
 use mathlib.Core.List.{List, [], ◌∷◌, ◌++◌, map, flatten}
 use Prim.Native.Nat.{ℕ}
+use Rattle.std.specs.Prelude.{Option, None, Some}
+use Rattle.rules.specs.declared.call.Call.{Call}
 use Rattle.scheduler.specs.declared.scheduler.QoSScheduler.{QoSScheduler}
 use Rattle.rules.specs.State.{State}
 use Rattle.rules.specs.Stretch.{events}
-use Rattle.frames.specs.declared.decode.CallOption.{CallOption}
-use Rattle.frames.specs.declared.decode.CallOption.TheVariants.{None, Some}
 use Rattle.frames.specs.declared.stream.Stream.{Stream}
 use Rattle.frames.specs.Lines.{line_call, said, said_to, line_text, lines, answer_to, state_after, answers_to}
 use Rattle.claims.specs.Demand3.{Start, start_state}
 use Rattle.frames.specs.Stream.{Begins}
 use Rattle.claims.specs.Requests.{call_in}
 use Rattle.claims.specs.TextClaim.{Feeding, Feedings, Answered, Line, by_line, TextClaim, StreamClaim}
-use Rattle.claims.proofs.Demand3.{start_as}
+use Rattle.claims.proofs.Demand3.{start_is}
 use Rattle.claims.proofs.Histories.{answers_from}
 use Rattle.claims.proofs.Follows.{run-said, Chain, asks}
 use Rattle.claims.proofs.Feedings.{feedings-answered}
@@ -36,7 +36,7 @@ answered-text s [] = refl
 answered-text s (line ∷ rest) = ap (λ (l : List ℕ). answer_to line s ++ l) (answered-text (state_after line s) rest)
 
 -- each is told what the rules say
-line-says : (line : List ℕ) (s : State) (c : CallOption) →
+line-says : (line : List ℕ) (s : State) (c : Option Call) →
     by_line.Told (record { line = line; text = line_text (said c s).bytes }) s (answers_from (call_in c) s)
 unfolding events
 line-says line s None = refl
@@ -63,7 +63,7 @@ pub stream_demand3 : {s : QoSScheduler} (start : Start s) {stream : Stream} → 
     Feedings stream text fs → StreamClaim (start_state start) s text fs
 stream_demand3 {s} start begins text fs feedings =
     let so_far : Answered (start_state start) (lines text) fs =
-    subst (λ (t : State). Answered t (lines text) fs) (start_as start).state_is (feedings-answered begins text fs feedings) in
+    subst (λ (t : State). Answered t (lines text) fs) (start_is start) (feedings-answered begins text fs feedings) in
     record {
       so_far = so_far;
       claim = subst (TextClaim (start_state start) s so_far.answered) (sym so_far.text_is) (text_demand3 start so_far.answered);

@@ -3,24 +3,15 @@
 use Rattle.std.specs.Prelude.{◌≡◌, List, ℕ}
 use Rattle.scheduler.specs.declared.scheduler.QoSScheduler.{QoSScheduler}
 use Rattle.claims.specs.History.{Made, History, CodeClaim}
-use Rattle.scheduler.specs.Scheduler.{IsNew}
+use Rattle.scheduler.specs.Scheduler.{abs}
 use Rattle.rules.specs.State.{State, new_state}
-use Rattle.frames.specs.declared.read.ImageRead.{ImageRead}
-use Rattle.frames.specs.AcceptedImage.{AcceptedImage}
-use Rattle.frames.specs.ReadWrite.{ReadsImage}
+use Rattle.frames.specs.ReadWrite.{ReadAs}
 use Rattle.frames.specs.Image.{state_at}
 
--- "from the state read from an accepted image": the scheduler in what the reader made of one
-pub record ReadFrom (image : List ℕ) (s : QoSScheduler) : Type 0 where
-  pub accepted : AcceptedImage image
-  pub read : ImageRead
-  pub reads : ReadsImage image read
-  pub state_is : read.state ≡ s
-
--- "It starts from new or from the state read from an accepted image": what `new` ensures, or what `read_image` ensures of an accepted image
+-- "It starts from new or from the state read from an accepted image": what `new` ensures, or what `read_image` ensures of a scheduler that it answers
 pub data Start (s : QoSScheduler) : Type 0 where
-  from_new : IsNew s → Start s
-  from_image : (image : List ℕ) → ReadFrom image s → Start s
+  from_new : abs s ≡ new_state → Start s
+  from_image : (image : List ℕ) → ReadAs image s → Start s
 
 -- the state that the rules start from
 abbrev pub start_state : {s : QoSScheduler} → Start s → State

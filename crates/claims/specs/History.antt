@@ -14,7 +14,8 @@ use Rattle.rules.specs.Step.{step, run}
 use Rattle.rules.specs.Took.{Carries}
 use Rattle.rules.specs.Stretch.{Event, breaks, picks, stretch, ahead}
 use Rattle.rules.specs.Waiting.{Waiting}
-use Rattle.scheduler.specs.Scheduler.{abs, Valid, Meets, MeetsLent}
+use Rattle.rules.specs.Accepted.{Accepted}
+use Rattle.scheduler.specs.Scheduler.{abs, Meets, MeetsLent}
 
 -- one call, and what the code gave back
 pub record Made : Type 0 where
@@ -69,8 +70,8 @@ outcome_of r = record { answer = r.answer; state = abs r.state }
 
 -- at one point: the start and the calls so far, the scheduler there, and the calls that follow
 pub record CodePoint (start : State) (past : List Call) (s : QoSScheduler) (next : List Made) : Type 0 where
-  -- it is a scheduler that every call may be given
-  pub valid : Valid s
+  -- what it holds is accepted, as of every scheduler
+  pub accepted : Accepted (abs s)
   -- "At each, the scheduler's state equals the one that this paper's rules and refusals make from the start and the calls so far"
   pub states : abs s ≡ run past start
   -- the next answer, status, pick and value, is the rules' answer there

@@ -17,7 +17,7 @@ use Rattle.frames.specs.Frame.{frame_call}
 use Rattle.frames.specs.Host.{refusal_returned, answer_room, Hosted, host_step}
 use Rattle.frames.specs.Image.{image_of, state_at}
 use Rattle.claims.specs.History.{Made, left}
-use Rattle.claims.specs.Demand3.{ReadFrom}
+use Rattle.frames.specs.ReadWrite.{ReadAs}
 use Rattle.claims.specs.Requests.{Protocol, calls_among, call_in, RefusedOr, AskedPoint, Asks}
 
 -- one call: its frame, the answer buffer before, and what came back
@@ -64,7 +64,7 @@ pub record HostPoint (start : State) (s : QoSScheduler) (whole : List Made) (pas
 pub record HostClaim (image : List ℕ) (calls : List HostCall) : Type 0 where
   -- the scheduler that the image stands for
   pub scheduler : QoSScheduler
-  pub read_from : ReadFrom image scheduler
+  pub read_as : ReadAs image scheduler
   -- the calls are a history of it, and the answers in the buffers are that history's
   pub asks : Asks by_host (state_at image) scheduler calls
   -- at every point, however the list is cut

@@ -1,14 +1,12 @@
 -- Demand 3 for those who do not make calls themselves: requests, each read as a list of calls: none, one or many. What is asked is the calls of a
 -- history, in order, and what is told is its answers; a request that asks for none, be it refused or only a look at the state, is no call of it.
-use Rattle.std.specs.Prelude.{◌≡◌}
+use Rattle.std.specs.Prelude.{◌≡◌, Option, None, Some}
 use mathlib.Core.List.{List, [], ◌∷◌, ◌++◌, flat_map}
 use Rattle.rules.specs.declared.answer.Answer.{Answer}
 use Rattle.rules.specs.declared.call.Call.{Call}
 use Rattle.rules.specs.State.{State}
 use Rattle.scheduler.specs.declared.scheduler.QoSScheduler.{QoSScheduler}
 use Rattle.scheduler.specs.Scheduler.{abs}
-use Rattle.frames.specs.declared.decode.CallOption.{CallOption}
-use Rattle.frames.specs.declared.decode.CallOption.TheVariants.{None, Some}
 use Rattle.claims.specs.History.{Made, History, left, calls_of, answers_of, CodePoint}
 
 -- how requests of a kind are read, and what they are told; kinds that stand in one list are a protocol over their sum
@@ -26,7 +24,7 @@ calls_among p requests = flat_map p.asked requests
 -- ---- requests of one frame
 
 -- its call, or none
-abbrev pub call_in : CallOption → List Call
+abbrev pub call_in : Option Call → List Call
 call_in None = []
 call_in (Some call) = call ∷ []
 

@@ -10,20 +10,18 @@ use borrow.Author.Tests.{leb-false}
 use lib.Dec.{leb, eqb}
 use lib.ListN.{length, length-set}
 use lib.Seq.{sets, get_or-set_same}
+use Rattle.std.specs.Prelude.{Option, None, Some}
+use Rattle.rules.specs.declared.answer.ContextSwitchPlan.{ContextSwitchPlan}
+use Rattle.rules.specs.declared.answer.Pick.{Pick}
+use Rattle.records.specs.declared.task.TaskControlBlock.{TaskControlBlock}
+use Rattle.records.specs.declared.ids.Slot.{Slot}
 use Rattle.records.specs.declared.error.SchedError.{SchedError}
 use Rattle.records.specs.declared.error.SchedError.TheVariants.{TableFull, QueueFull, NoSuchTask, AlreadyReady, AlreadyBlocked, NotBlocked}
-use Rattle.records.specs.declared.ids.SlotOption.{SlotOption}
-use Rattle.records.specs.declared.ids.SlotOption.TheVariants as slot
 use Rattle.records.specs.Error.{error_code}
 use Rattle.records.proofs.Bands.{band_code-small}
 use Rattle.records.proofs.Cases.{by_if}
 use Rattle.records.specs.Band.{band_code}
 use Rattle.rules.specs.declared.answer.Answer.{Answer}
-use Rattle.rules.specs.declared.answer.CoreOption.{CoreOption}
-use Rattle.rules.specs.declared.answer.PickOption.{PickOption}
-use Rattle.rules.specs.declared.answer.PickOption.TheVariants as pick
-use Rattle.rules.specs.declared.answer.PlanOption.{PlanOption}
-use Rattle.rules.specs.declared.answer.TaskOption.{TaskOption}
 use Rattle.rules.specs.declared.answer.Value.{Value}
 use Rattle.rules.specs.declared.answer.Value.TheVariants as value
 use Rattle.rules.specs.declared.call.Call.{Call}
@@ -55,12 +53,12 @@ use Rattle.frames.proofs.Widths.{numbers_at-written}
 
 -- ---- an answer from its parts
 
-abbrev SlotFits : SlotOption → Type 0
+abbrev SlotFits : Option Slot → Type 0
 SlotFits o = slot_number o < 256
 
-abbrev PickFits : PickOption → Type 0
-PickFits pick.None = Unit {0}
-PickFits (pick.Some p) = p.slot.0 < 256
+abbrev PickFits : Option Pick → Type 0
+PickFits None = Unit {0}
+PickFits (Some p) = p.slot.0 < 256
 
 abbrev ValueFits : Value → Type 0
 ValueFits v = Fit (value_widths v) (value_numbers v)
@@ -78,10 +76,10 @@ unfolding Fit paper
 refusal-fits e = (error_small e, (omega arith, (omega arith, tt)))
 
 -- done, with a pick and a value
-answered-fits : (p : PickOption) (v : Value) → PickFits p → ValueFits v → FitsAnswer (answered p v)
+answered-fits : (p : Option Pick) (v : Value) → PickFits p → ValueFits v → FitsAnswer (answered p v)
 unfolding Fit paper
-answered-fits pick.None v low fit = (omega arith, (omega arith, (omega arith, fit)))
-answered-fits (pick.Some p) v low fit = (omega arith, (low, (omega (arith, band_code-small p.band), fit)))
+answered-fits None v low fit = (omega arith, (omega arith, (omega arith, fit)))
+answered-fits (Some p) v low fit = (omega arith, (low, (omega (arith, band_code-small p.band), fit)))
 
 -- ---- who is to run on a core
 
@@ -97,24 +95,24 @@ P-next : (s : State) (c : ℕ) → c < 64 → {o : Chosen} → PEnd s c o → Ne
 P-next s c low picks_none a = (omega arith, tt)
 P-next s c low (picks_one p) a =
     let i : ℕ = p.slot.0 in
-    let t : State = (after_pick s c (pick.Some p)).state in
+    let t : State = (after_pick s c (Some p)).state in
     let held : holder t c ≡ i = get_or-set_same s.holders c i none_byte (omega (arith, a.cores, length-set s.holders c i)) in
     let small : i < 256 = omega (arith, holder_small t a c) in
     (small, small)
 
 -- ---- plans
 
-plan_fits : (s : State) → Bounded s → (previous next : SlotOption) → SlotFits previous → SlotFits next → ValueFits (value.Plan (plan_of previous next s))
+plan_fits : (s : State) → Bounded s → (previous next : Option Slot) → SlotFits previous → SlotFits next → ValueFits (value.Plan (plan_of previous next s))
 unfolding Fit
 plan_fits s b previous next from to =
-    by_if (λ (p : PlanOption). ValueFits (value.Plan p)) (same previous next) (λ _. (omega arith, tt)) (λ _. (omega arith, (from, target next to)))
+    by_if (λ (p : Option ContextSwitchPlan). ValueFits (value.Plan p)) (same previous next) (λ _. (omega arith, tt)) (λ _. (omega arith, (from, target next to)))
   where
-    target : (o : SlotOption) → SlotFits o → Fit (1 ∷ 8 ∷ []) (target_numbers (target_of o s))
-    target slot.None low = (omega arith, (omega arith, tt))
-    target (slot.Some n) low = (low, ((b.0 n.0).1.1.0, tt))
+    target : (o : Option Slot) → SlotFits o → Fit (1 ∷ 8 ∷ []) (target_numbers (target_of o s))
+    target None low = (omega arith, (omega arith, tt))
+    target (Some n) low = (low, ((b.0 n.0).1.1.0, tt))
 
 -- who is to run, told as a slot or as a plan, where the state that is left is accepted and bounded
-telling_fits : (how : Telling) (previous : SlotOption) (c : Chosen) → SlotFits previous → NextFits c → Accepted c.state → Bounded c.state →
+telling_fits : (how : Telling) (previous : Option Slot) (c : Chosen) → SlotFits previous → NextFits c → Accepted c.state → Bounded c.state →
     FitsAnswer (told_as how previous c).answer
 unfolding Fit
 telling_fits by_slot previous c from next after b = answered-fits c.pick (value.Slot c.next) (next after).1 ((next after).0, tt)
@@ -129,7 +127,7 @@ below-fits n low = let small : n < 64 = leb-false 64 n low in omega arith
 index_fits : (n : ℕ) → SlotFits (slot_below n)
 index_fits n = by_if SlotFits (leb 64 n) (λ _. omega arith) (below-fits n)
 
-abbrev CoreFits : CoreOption → Type 0
+abbrev CoreFits : Option ℕ → Type 0
 CoreFits o = core_number o < 256
 
 core_fits_lem : (i : ℕ) (s : State) → CoreFits (core_of i s)
@@ -138,7 +136,7 @@ core_fits_lem i s =
     by_if CoreFits (leb 64 i) (λ _. omega arith) (λ _.
     by_if CoreFits (leb 64 (core_holding s i)) (λ _. omega arith) (below-fits (core_holding s i)))
 
-abbrev TaskFits : TaskOption → Type 0
+abbrev TaskFits : Option TaskControlBlock → Type 0
 TaskFits o = ValueFits (value.Task o)
 
 task-fits : (s : State) → FitsImage s → (i : ℕ) → TaskFits (task_at i s)
@@ -149,9 +147,9 @@ current-fits : (s : State) → FitsImage s → (core : ℕ) → TaskFits (curren
 unfolding current_task_on_cpu Fit
 current-fits s f core = by_if TaskFits (leb 64 core) (λ _. (omega arith, tt)) (λ _. of (holder_of s core))
   where
-    of : (h : SlotOption) → TaskFits (holder_record h s)
-    of slot.None = (omega arith, tt)
-    of (slot.Some h) = task-fits s f h.0
+    of : (h : Option Slot) → TaskFits (holder_record h s)
+    of None = (omega arith, tt)
+    of (Some h) = task-fits s f h.0
 
 -- ---- every call and query
 
@@ -178,11 +176,11 @@ module _ (s : State) (a : Accepted s) (f : FitsImage s) where
 
   way_fits : {call : Call} {o : Outcome} {r : Reach} → Way s call o r → Accepted o.state → FitsAnswer o.answer
   way_fits (refuses e why) after = refusal-fits e
-  way_fits (tells v of) after = answered-fits pick.None v tt (tells_fits of)
-  way_fits (does v t deed) after = answered-fits pick.None v tt (deed_fits deed)
+  way_fits (tells v of) after = answered-fits None v tt (tells_fits of)
+  way_fits (does v t deed) after = answered-fits None v tt (deed_fits deed)
   way_fits (keeps how c elapsed h low is named awake on) after =
-      let from : SlotFits (slot.Some h) = subst SlotFits is (holder-fits s a c) in
-      telling_fits how (slot.Some h) (stays_holder h elapsed (gain elapsed s)) from (λ _. (from, tt)) after (kept_bounded s (fits_bounded s f) h elapsed)
+      let from : SlotFits (Some h) = subst SlotFits is (holder-fits s a c) in
+      telling_fits how (Some h) (stays_holder h elapsed (gain elapsed s)) from (λ _. (from, tt)) after (kept_bounded s (fits_bounded s f) h elapsed)
   way_fits (comes how previous c t u low on-it is by) after =
       telling_fits how previous (rule_p c t) (subst SlotFits is (holder-fits s a c)) (P-next t c low (P-way t c low)) after
       (came_bounded s (fits_bounded s f) low by)
@@ -198,11 +196,11 @@ unfolding answer_bytes
 answer-read call s a f = numbers_at-written _ (paper (step call s).answer) (answer-fits_widths call s a f)
 
 -- the pick stands behind the status, in whatever buffer the answer is stored
-pick-behind : (status : ℕ) (p : PickOption) (widths numbers : List ℕ) → Fit (1 ∷ 1 ∷ 1 ∷ widths) (status ∷ (pick_numbers p ++ numbers)) →
+pick-behind : (status : ℕ) (p : Option Pick) (widths numbers : List ℕ) → Fit (1 ∷ 1 ∷ 1 ∷ widths) (status ∷ (pick_numbers p ++ numbers)) →
     pick_in (written (1 ∷ 1 ∷ 1 ∷ widths) (status ∷ (pick_numbers p ++ numbers))) ≡ pick_numbers p
 unfolding Fit bytes_of
-pick-behind status pick.None widths numbers fit = refl
-pick-behind status (pick.Some p) widths numbers fit =
+pick-behind status None widths numbers fit = refl
+pick-behind status (Some p) widths numbers fit =
     let slot : p.slot.0 % 256 ≡ p.slot.0 = omega (arith, fit.1.0) in
     let band : band_code p.band % 256 ≡ band_code p.band = omega (arith, band_code-small p.band) in
     λ i. slot i ∷ band i ∷ []

@@ -88,7 +88,6 @@ counted_most {n} {es} {before} {after} most so short slot =
 
 -- each count is how often its slot stands in the queues
 pub record CountsAre (s : State) (counts : List ℕ) : Type 0 where
-  pub whole : length counts ≡ 64
   pub each_is : (slot : ℕ) → slot < 64 → get_or counts slot 0 ≡ standings s slot
 
 module _ (image : List ℕ) (fit : LengthsFit image) where
@@ -117,7 +116,6 @@ module _ (image : List ℕ) (fit : LengthsFit image) where
   pub counts_are : {a b c : List ℕ} → Counted (entries UserInteractive) none a → Counted (entries RealTimeIO) a b → Counted (entries Background) b c →
       CountsAre (state_at image) c
   counts_are p q r = record {
-    whole = r.whole;
     each_is = λ slot h. omega (arith, none_most slot, p.counts_are slot h, q.counts_are slot h, r.counts_are slot h);
   }
 

@@ -1,13 +1,18 @@
--- The first line of a text (`line_of`): how long it is, and where a search for its end finds that. Assumes nothing.
-use mathlib.Core.Bool.{Bool, true, false}
+-- The first line of a text (`line_of`): how long it is, and that a search for its end finds it. Assumes nothing.
+use mathlib.Core.Bool.{Bool, true, false, cond}
 use mathlib.Core.List.{List, [], ◌∷◌}
-use mathlib.Core.Path.{◌≡◌, refl, ap, ◌∙◌}
-use Prim.Native.Nat.{ℕ, suc, ◌+◌, ◌-◌, ◌≤◌, ◌<◌}
-use native.Mathlib.Numerals.{add-one}
+use mathlib.Core.Logic.{inl, inr}
+use mathlib.Core.Path.{◌≡◌, refl, ap, sym, ◌∙◌}
+use Prim.Native.Nat.{ℕ, suc, ◌+◌, ◌-◌, ◌≤◌}
 use native.Mathlib.Omega.{arith}
-use lib.Dec.{eqb}
-use lib.ListN.{length, take, drop, get_or, length-drop, drop_of_length-le}
-use lib.Seq.{drop-cons}
+use borrow.Author.Tests.{ltb-false}
+use denote.Ref.{Bor}
+use lib.Dec.{eqb, ltb}
+use lib.ListN.{length, take, drop, length-drop, drop_of_length-le}
+use lib.Seq.{take_all}
+use Rattle.std.specs.Prelude.{Option, None, Some, unwrap_or}
+use Rattle.std.specs.List.{position, position_or_len}
+use Rattle.std.specs.Slice.{IsGetRangeResult}
 use Rattle.frames.specs.Lines.{newline, line_of}
 
 -- a test's two ways, where the statement doesn't name the test
@@ -17,7 +22,7 @@ test false t f = f refl
 
 -- ---- the first line
 
-pub line_in : (text : List ℕ) → length (line_of text) ≤ length text
+line_in : (text : List ℕ) → length (line_of text) ≤ length text
 unfolding line_of
 line_in [] = omega arith
 line_in (b ∷ text) = test (eqb b newline) (λ e. rw e (omega arith)) (λ e. rw e (omega (arith, line_in text)))
@@ -25,34 +30,38 @@ line_in (b ∷ text) = test (eqb b newline) (λ e. rw e (omega arith)) (λ e. rw
 pub line-within : (text : List ℕ) (at : ℕ) {line : List ℕ} → line ≡ line_of (drop at text) → length line ≤ length text - at
 line-within text at is = omega (arith, ap length is, line_in (drop at text), length-drop at text)
 
-line-front : (text : List ℕ) → take (length (line_of text)) text ≡ line_of text
+-- ---- its end, looked for
+
+abbrev pub is_newline : ℕ → Bool
+is_newline b = eqb b newline
+
+line-front : (text : List ℕ) → take (position_or_len is_newline text) text ≡ line_of text
 unfolding line_of
 line-front [] = refl
-line-front (b ∷ text) = test (eqb b newline) (λ e. rw e refl) (λ e. rw e (ap (λ (l : List ℕ). b ∷ l) (line-front text)))
+line-front (b ∷ text) =
+    test (eqb b newline) (λ e. rw e refl)
+    (λ e.
+    let more : 1 + position_or_len is_newline text ≡ suc (position_or_len is_newline text) = omega arith in
+    rw (e, more) (ap (λ (l : List ℕ). b ∷ l) (line-front text)))
 
--- past the end of the text
-pub line-none : (text : List ℕ) (k : ℕ) → length text ≤ k → line_of (drop k text) ≡ []
-unfolding line_of
-line-none text k past = ap line_of (drop_of_length-le text past)
+-- up to where the search found it, or all of the text
+module _ (text : List ℕ) where
+  cut_at : (b : Bool) → ltb (position_or_len is_newline text) (length text) ≡ b →
+      take (unwrap_or (cond b (Some (position_or_len is_newline text)) None) (length text)) text ≡ line_of text
+  cut_at true _ = line-front text
+  cut_at false none =
+      take_all (length text) text (omega arith) ∙ sym (take_all (position_or_len is_newline text) text (ltb-false _ _ none)) ∙ line-front text
 
--- where a newline stands
-pub line-empty : (text : List ℕ) (k : ℕ) → k < length text → eqb (get_or text k 0) newline ≡ true → line_of (drop k text) ≡ []
-unfolding line_of
-line-empty text k low is = rw (drop-cons text k 0 low, is) refl
+  pub line_cut : (found : Option ℕ) {n : ℕ} → found ≡ position is_newline text → n ≡ unwrap_or found (length text) → take n text ≡ line_of text
+  line_cut found is n_is =
+      ap (λ (k : ℕ). take k text) (n_is ∙ ap (λ (o : Option ℕ). unwrap_or o (length text)) is)
+      ∙ cut_at (ltb (position_or_len is_newline text) (length text)) refl
 
--- where another byte stands
-line-longer : (text : List ℕ) (k : ℕ) → k < length text → eqb (get_or text k 0) newline ≡ false →
-    length (line_of (drop k text)) ≡ suc (length (line_of (drop (k + 1) text)))
-unfolding line_of
-line-longer text k low other = rw (add-one k, drop-cons text k 0 low, other) refl
-
--- ---- a line's end, looked for from its place on: the line from `k` on ends where the line from `at` on does
-
-module _ (text : List ℕ) (at k : ℕ) (same : at + length (line_of (drop at text)) ≡ k + length (line_of (drop k text))) where
-  pub line_on : k < length text → eqb (get_or text k 0) newline ≡ false → at + length (line_of (drop at text)) ≡ k + 1 + length (line_of (drop (k + 1) text))
-  line_on low other = omega (arith, line-longer text k low other)
-
-  pub line_found : line_of (drop k text) ≡ [] → take (k - at) (drop at text) ≡ line_of (drop at text)
-  line_found none =
-      let far : k - at ≡ length (line_of (drop at text)) = omega (arith, ap length none) in
-      ap (λ (n : ℕ). take n (drop at text)) far ∙ line-front (drop at text)
+-- the text from a place on, and nothing past its end
+pub rest_is : (text : List ℕ) (at : ℕ) (got : Option (Bor (List ℕ))) (none : Bor (List ℕ)) {rest : Bor (List ℕ)} →
+    IsGetRangeResult text at (length text) got → none.now ≡ [] → rest ≡ unwrap_or got none → rest.now ≡ drop at text
+rest_is text at None none g empty is =
+    let past : length text ≤ at = elim g.0 [ inl e ↦ omega arith | inr e ↦ absurd (omega arith) ] in
+    ap (λ (r : Bor (List ℕ)). r.now) is ∙ empty ∙ sym (drop_of_length-le text past)
+rest_is text at (Some part) none g empty is =
+    ap (λ (r : Bor (List ℕ)). r.now) is ∙ g.0.2 ∙ take_all (length text - at) (drop at text) (omega (arith, length-drop at text))

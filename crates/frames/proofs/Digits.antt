@@ -1,47 +1,23 @@
 -- Lower-case hexadecimal: what digits stand for, the round trip from bytes to digits and back, lengths, and what the loops that test, read and
 -- store digits need. Assumes nothing.
 use mathlib.Core.Path.{◌≡◌, refl, sym, ap, ◌∙◌}
-use mathlib.Core.Bool.{Bool, true, false, ◌&&◌, and-eq-true_iff, and-false}
+use mathlib.Core.Bool.{Bool, true, false, and_assoc, and-false}
 use mathlib.Core.Logic.Iff
 use mathlib.Core.List.{List, [], ◌∷◌}
-use Prim.Native.Nat.{ℕ, suc, ◌+◌, ◌-◌, ◌*◌, ◌/◌, ◌%◌, ◌≤◌, ◌<◌}
+use Prim.Native.Nat.{ℕ, suc, ◌+◌, ◌*◌, ◌/◌, ◌%◌, ◌≤◌, ◌<◌}
 use native.Mathlib.Omega.{arith}
-use native.Mathlib.Nat.{add-zero}
 use native.Mathlib.Numerals.{add-one}
-use borrow.Author.Tests.{leb-true, eqb-true, eqb-false, eq-eqb, ne_eqb}
-use lib.Dec.{leb, eqb}
-use lib.ListN.{length, get_or, drop, set, length-set, length-drop, drop_of_length-le}
+use lib.ListN.{length, get_or, drop, set, length-drop, drop_of_length-le}
 use lib.Seq.{sets, drop-cons}
-use Rattle.records.proofs.Cases.{split}
-use Rattle.records.specs.Lists.{Each, every_below}
-use Rattle.rules.proofs.Says.{equal, below}
-use Rattle.frames.specs.Hex.{within, is_digit, digit_value, digit_of, is_hex, byte_of, from_hex, to_hex}
+use Rattle.std.specs.Bool.{Decides}
+use Rattle.std.proofs.lemmas.Bool.Decides.{same_from_decides}
+use Rattle.records.specs.Lists.{Each, every, every_below}
+use Rattle.rules.proofs.Says.{equal, below, each}
+use Rattle.frames.specs.Hex.{is_digit, digit_value, digit_of, is_hex, byte_of, from_hex, to_hex}
 use Rattle.frames.specs.Private.{IsDigitValue}
 use Rattle.frames.specs.Bytes.{AllBytes}
 
 -- ---- one digit
-
-pub within-is : (low high d : ℕ) → within low high d ≡ true → (low ≤ d) × (d ≤ high)
-within-is low high d e =
-    let both = (and-eq-true_iff (leb low d) (leb d high)).0 e in
-    (leb-true low d both.0, leb-true d high both.1)
-
--- whether it is a digit, from the first test, or from the second where the first fails
-pub is_digit_number : (d : ℕ) {t : Bool} → t ≡ within 48 57 d → t ≡ true → t ≡ is_digit d
-is_digit_number d e is = is ∙ sym (rw (sym e ∙ is))
-
-pub is_digit_letter : (d : ℕ) {t u : Bool} → t ≡ within 48 57 d → t ≡ false → u ≡ within 97 102 d → u ≡ is_digit d
-is_digit_letter d e fails f = f ∙ sym (rw (sym e ∙ fails))
-
--- a digit from 0 to 9, one from a to f, and none
-pub value_number : (d : ℕ) → within 48 57 d ≡ true → IsDigitValue d (d - 48)
-value_number d e = record { is = rw e; small = omega (arith, within-is 48 57 d e) }
-
-pub value_letter : (d : ℕ) → within 48 57 d ≡ false → within 97 102 d ≡ true → IsDigitValue d (d - 97 + 10)
-value_letter d n e = record { is = rw (n, e) (omega (arith, within-is 97 102 d e)); small = omega (arith, within-is 97 102 d e) }
-
-pub value_none : (d : ℕ) → within 48 57 d ≡ false → within 97 102 d ≡ false → IsDigitValue d 0
-value_none d n l = record { is = rw (n, l); small = omega arith }
 
 -- of all 16 by computing
 is_digit-digit_of : (n : ℕ) → n < 16 → is_digit (digit_of n) ≡ true
@@ -80,14 +56,25 @@ length-from_hex [] = refl
 length-from_hex (d ∷ []) = refl
 length-from_hex (d ∷ e ∷ digits) = omega (arith, length-from_hex digits)
 
--- ---- testing: the line is digits where what is left of it is
+-- ---- testing: by pairs as the definition goes, or one by one
 
-pub record Testing (line : List ℕ) (k : ℕ) : Type 0 where
-  pub inside : k ≤ length line
-  pub left_is : is_hex (drop k line) ≡ is_hex line
+is_hex-even : (line : List ℕ) → length line % 2 ≡ 0 → is_hex line ≡ every is_digit line
+unfolding is_hex every
+is_hex-even [] h = refl
+is_hex-even (d ∷ []) h = absurd (omega (arith, h))
+is_hex-even (d ∷ e ∷ digits) h = rw (is_hex-even digits (omega (arith, h))) (and_assoc (is_digit d) (is_digit e) (every is_digit digits))
 
-pub testing_begin : (line : List ℕ) → Testing line 0
-testing_begin line = record { inside = omega arith; left_is = refl }
+pub is_hex-odd : (line : List ℕ) → (length line % 2 ≡ 0 → ⊥) → false ≡ is_hex line
+unfolding is_hex
+is_hex-odd [] odd = absurd (odd refl)
+is_hex-odd (d ∷ []) odd = refl
+is_hex-odd (d ∷ e ∷ digits) odd = rw (sym (is_hex-odd digits (λ even. odd (omega (arith, even))))) (sym (simp and-false))
+
+pub is_hex_when : (line : List ℕ) (r : Bool) → length line % 2 ≡ 0 → Decides r ((k : ℕ) → k < length line → is_digit (get_or line k 0) ≡ true) →
+    r ≡ is_hex line
+is_hex_when line r even each-is = same_from_decides r (every is_digit line) each-is (each (λ d. Iff.rfl) 0 line) ∙ sym (is_hex-even line even)
+
+-- ---- reading: the bytes of the digits that are left, stored behind those that are done, give what is asked for
 
 drop_two : (line : List ℕ) (k : ℕ) → k + 1 < length line → drop k line ≡ get_or line k 0 ∷ get_or line (k + 1) 0 ∷ drop (k + 2) line
 drop_two line k h =
@@ -96,54 +83,15 @@ drop_two line k h =
     drop-cons line k 0 (omega arith)
     ∙ ap (λ (l : List ℕ). get_or line k 0 ∷ l) (drop-cons line (suc k) 0 (omega arith) ∙ (λ i. get_or line (one i) 0 ∷ drop (two i) line))
 
--- two digits more, or one of the two is none
-module _ {line : List ℕ} {k : ℕ} (so : Testing line k) (h : k + 1 < length line) where
-  two_and_rest : is_hex line ≡ is_digit (get_or line k 0) && is_digit (get_or line (k + 1) 0) && is_hex (drop (k + 2) line)
-  unfolding is_hex
-  two_and_rest = sym so.left_is ∙ ap is_hex (drop_two line k h)
-
-  pub testing_on : is_digit (get_or line k 0) ≡ true → is_digit (get_or line (k + 1) 0) ≡ true → Testing line (k + 2)
-  testing_on d e = record { inside = omega arith; left_is = sym (two_and_rest ∙ rw (d, e)) }
-
-  pub testing_first : is_digit (get_or line k 0) ≡ false → false ≡ is_hex line
-  testing_first d = sym (two_and_rest ∙ rw d)
-
-  pub testing_second : is_digit (get_or line (k + 1) 0) ≡ false → false ≡ is_hex line
-  testing_second e = sym (two_and_rest ∙ rw (e, and-false))
-
--- none is left over, or one
-is_hex-short : (rest : List ℕ) → length rest ≤ 1 → is_hex rest ≡ eqb (length rest) 0
-unfolding is_hex
-is_hex-short [] h = refl
-is_hex-short (d ∷ []) h = refl
-is_hex-short (d ∷ e ∷ rest) h = absurd (omega arith)
-
-pub testing_ended : {line : List ℕ} {k : ℕ} → Testing line k → length line ≤ k + 1 → eqb k (length line) ≡ is_hex line
-testing_ended {line} {k} so h =
-    let left : length (drop k line) ≡ length line - k = length-drop k line in
-    let is : is_hex line ≡ eqb (length (drop k line)) 0 = sym so.left_is ∙ is_hex-short (drop k line) (omega arith) in
-    split (λ (t : Bool). t ≡ is_hex line) (eqb k (length line))
-    (λ same. sym (is ∙ eq-eqb (length (drop k line)) 0 (omega (arith, eqb-true k (length line) same))))
-    (λ apart. sym (is ∙ ne_eqb (length (drop k line)) 0 (λ none. eqb-false k (length line) apart (omega arith))))
-
--- ---- reading: the bytes of the digits that are left, stored behind those that are done, give what is asked for
-
 pub record ReadingDigits (line start now : List ℕ) (k : ℕ) : Type 0 where
-  pub same_length : length now ≡ length start
   pub left_is : sets now k (from_hex (drop (2 * k) line)) ≡ sets start 0 (from_hex line)
-
-pub reading_begin : (line start : List ℕ) → ReadingDigits line start start 0
-reading_begin line start = record { same_length = refl; left_is = refl }
 
 pub reading_on : {line start now : List ℕ} {k v w : ℕ} → ReadingDigits line start now k → 2 * k + 1 < length line →
     IsDigitValue (get_or line (2 * k) 0) v → IsDigitValue (get_or line (2 * k + 1) 0) w → ReadingDigits line start (set now k (v * 16 + w)) (k + 1)
 unfolding from_hex
-reading_on {line} {now = now} {k} so h v w =
+reading_on {line} {k = k} so h v w =
     let two : 2 * (k + 1) ≡ 2 * k + 2 = omega arith in
-    record {
-      same_length = length-set now k _ ∙ so.same_length;
-      left_is = rw (two, add-one k, v.is, w.is) (rw (drop_two line (2 * k)) at so.left_is);
-    }
+    record { left_is = rw (two, add-one k, v.is, w.is) (rw (drop_two line (2 * k)) at so.left_is) }
 
 from_hex-short : (rest : List ℕ) → length rest ≤ 1 → from_hex rest ≡ []
 unfolding from_hex
@@ -157,11 +105,7 @@ reading_ended {line} {k = k} so h = rw (from_hex-short (drop (2 * k) line) (simp
 -- ---- storing: the digits of the bytes that are left, stored behind those that are done, give what is asked for
 
 pub record Storing (bytes start : List ℕ) (at : ℕ) (now : List ℕ) (k : ℕ) : Type 0 where
-  pub same_length : length now ≡ length start
   pub left_is : sets now (at + 2 * k) (to_hex (drop k bytes)) ≡ sets start at (to_hex bytes)
-
-pub storing_begin : (bytes start : List ℕ) (at : ℕ) → Storing bytes start at start 0
-storing_begin bytes start at = record { same_length = refl; left_is = ap (λ (n : ℕ). sets start n (to_hex bytes)) (add-zero at) }
 
 pub storing_on : {bytes start now : List ℕ} {at k v w : ℕ} → Storing bytes start at now k → k < length bytes →
     v ≡ digit_of (get_or bytes k 0 / 16) → w ≡ digit_of (get_or bytes k 0 % 16) →
@@ -170,10 +114,7 @@ unfolding to_hex
 storing_on {bytes} {at = at} {k} so h v w =
     let one : at + 2 * k + 1 ≡ suc (at + 2 * k) = omega arith in
     let two : at + 2 * (k + 1) ≡ suc (suc (at + 2 * k)) = omega arith in
-    record {
-      same_length = simp length-set so.same_length;
-      left_is = rw (one, two, add-one k, v, w) (rw (drop-cons bytes k 0) at so.left_is);
-    }
+    record { left_is = rw (one, two, add-one k, v, w) (rw (drop-cons bytes k 0) at so.left_is) }
 
 pub storing-ended : {bytes start now : List ℕ} {at k : ℕ} → Storing bytes start at now k → length bytes ≤ k → now ≡ sets start at (to_hex bytes)
 unfolding to_hex

@@ -2,26 +2,33 @@
 -- and value.
 -- Assumes nothing.
 use mathlib.Core.Path.{◌≡◌, refl, sym, ap, ◌∙◌}
+use mathlib.Core.Bool.{Bool, true, false}
 use mathlib.Core.List.{List, [], ◌∷◌, ◌++◌}
 use Prim.Native.Nat.{ℕ, ◌+◌}
 use native.Mathlib.Omega.{arith}
 use lib.ListN.{length, drop}
 use lib.Seq.{sets}
+use Rattle.std.specs.Int.{from_bool}
+use Rattle.std.specs.Prelude.{Option, Some}
+use Rattle.rules.specs.declared.answer.Pick.{Pick}
 use Rattle.records.specs.declared.task.TaskControlBlock.{TaskControlBlock}
 use Rattle.rules.specs.declared.answer.Answer.{Answer}
 use Rattle.rules.specs.declared.answer.ContextSwitchPlan.{ContextSwitchPlan}
 use Rattle.rules.specs.declared.answer.ContextSwitchTarget.{ContextSwitchTarget}
-use Rattle.rules.specs.declared.answer.PickOption.{PickOption}
-use Rattle.rules.specs.declared.answer.PlanOption.TheVariants as plan
-use Rattle.rules.specs.declared.answer.TaskOption.TheVariants as task
 use Rattle.rules.specs.declared.answer.Value.{Value}
 use Rattle.rules.specs.declared.answer.Value.TheVariants as value
-use Rattle.rules.specs.Paper.{status_number, pick_numbers, slot_number, target_numbers, value_numbers, record_numbers}
+use Rattle.rules.specs.Paper.{flag_number, status_number, pick_numbers, slot_number, target_numbers, value_numbers, record_numbers}
 use Rattle.frames.specs.Answer.{record_widths, record_bytes, value_widths, answer_bytes}
 use Rattle.frames.specs.Private.{record_part, value_bytes}
 use Rattle.frames.specs.Bytes.{Puts, part, bytes_of, written, total}
 use Rattle.frames.proofs.Runs.{behind, run_on}
 use Rattle.frames.proofs.Sizes.{length-written, written_append, length-value_bytes, length-pick, answer_bytes_are, length-answer_bytes}
+
+-- ---- a flag's number
+
+pub flag_is : {x : ℕ} (b : Bool) → x ≡ from_bool b → x ≡ flag_number b
+flag_is true e = e
+flag_is false e = e
 
 -- ---- a value that was matched
 
@@ -40,15 +47,15 @@ byte_put v {b} e is p =
     record { buffer_is = p.buffer_is ∙ ap (sets b 3) same; length_is = p.length_is ∙ ap length same }
 
 -- a pick that was matched
-pub pick_as : (o : List ℕ) {p q : PickOption} {o₁ : List ℕ} → p ≡ q → o₁ ≡ sets o 1 (written (1 ∷ 1 ∷ []) (pick_numbers q)) → o₁ ≡ sets o 1 (written (1 ∷ 1 ∷ []) (pick_numbers p))
+pub pick_as : (o : List ℕ) {p q : Option Pick} {o₁ : List ℕ} → p ≡ q → o₁ ≡ sets o 1 (written (1 ∷ 1 ∷ []) (pick_numbers q)) → o₁ ≡ sets o 1 (written (1 ∷ 1 ∷ []) (pick_numbers p))
 pick_as o e is = is ∙ ap (λ p. sets o 1 (written (1 ∷ 1 ∷ []) (pick_numbers p))) (sym e)
 
 -- "01, previous byte (ff none), target byte (ff idle), cr3 8 (0 if idle)", for a target that was matched
 pub switch_put : (p : ContextSwitchPlan) {t : ContextSwitchTarget} {o o₁ : List ℕ} → p.target ≡ t
     → o₁ ≡ sets o 3 (written (1 ∷ 1 ∷ 1 ∷ 8 ∷ []) (1 ∷ slot_number p.prev_task_idx ∷ target_numbers t))
-    → Puts (value_bytes (value.Plan (plan.Some p))) 3 o o₁ 11
+    → Puts (value_bytes (value.Plan (Some p))) 3 o o₁ 11
 switch_put p {o = o} e is =
-    value_put (value.Plan (plan.Some p)) (is ∙ ap (λ t. sets o 3 (written (1 ∷ 1 ∷ 1 ∷ 8 ∷ []) (1 ∷ slot_number p.prev_task_idx ∷ target_numbers t))) (sym e))
+    value_put (value.Plan (Some p)) (is ∙ ap (λ t. sets o 3 (written (1 ∷ 1 ∷ 1 ∷ 8 ∷ []) (1 ∷ slot_number p.prev_task_idx ∷ target_numbers t))) (sym e))
 
 -- ---- a record
 
@@ -68,9 +75,9 @@ record_put t o {o₁} at e₁ e₂ e₃ =
 
 -- "01 and the record"
 pub task-put : (t : TaskControlBlock) (o : List ℕ) {o₁ o₂ : List ℕ} → o₁ ≡ sets o 3 (bytes_of 1 1) → o₂ ≡ sets o₁ 4 (record_bytes t)
-    → Puts (value_bytes (value.Task (task.Some t))) 3 o o₂ 48
+    → Puts (value_bytes (value.Task (Some t))) 3 o o₂ 48
 unfolding value_bytes record_bytes
-task-put t o e r = record { buffer_is = run_on o 3 1 4 _ e refl refl r; length_is = sym (length-value_bytes (value.Task (task.Some t))) }
+task-put t o e r = record { buffer_is = run_on o 3 1 4 _ e refl refl r; length_is = sym (length-value_bytes (value.Task (Some t))) }
 
 -- ---- an answer
 

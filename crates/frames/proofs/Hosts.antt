@@ -9,19 +9,17 @@ use borrow.Author.Tests.{eq-eqb, le-ltb}
 use lib.Dec.{eqb}
 use lib.ListN.{length}
 use lib.Seq.{sets}
+use Rattle.std.specs.Prelude.{Option, None, Some, Err}
 use Rattle.records.specs.declared.error.SchedError.{SchedError}
 use Rattle.records.specs.declared.error.SchedError.TheVariants.{TableFull, QueueFull, NoSuchTask, AlreadyReady, AlreadyBlocked, NotBlocked}
 use Rattle.records.specs.Error.{error_code}
 use Rattle.records.proofs.Cases.{by_if}
-use Rattle.rules.specs.declared.answer.Status.TheVariants.{Refused}
 use Rattle.rules.specs.declared.call.Call.{Call}
 use Rattle.rules.specs.Outcome.{Outcome, refusal, refused}
 use Rattle.rules.specs.Paper.{paper}
 use Rattle.rules.specs.State.{none_byte, new_state}
 use Rattle.rules.specs.Step.{step}
 use Rattle.rules.proofs.Refusals.{refused-whole}
-use Rattle.frames.specs.declared.decode.CallOption.{CallOption}
-use Rattle.frames.specs.declared.decode.CallOption.TheVariants.{None, Some}
 use Rattle.frames.specs.declared.refusal.HostError.TheVariants.{WrongLength}
 use Rattle.frames.specs.AcceptedImage.{AcceptedImage, accepts_image}
 use Rattle.frames.specs.Answer.{answer_bytes}
@@ -50,7 +48,7 @@ refused-untouched image frame answer =
     Leaves : Hosted → Type 0
     Leaves h = 256 ≤ h.returned → (h.image ≡ image) × (h.answer ≡ answer)
 
-    called : (c : CallOption) → Leaves (host_called c image answer)
+    called : (c : Option Call) → Leaves (host_called c image answer)
     called None h = (refl, refl)
     called (Some call) h = absurd (omega (arith, h, answer-fits (step call (state_at image)).answer))
 
@@ -90,12 +88,12 @@ module _ (image : List ℕ) (a : AcceptedImage image) where
 
   -- "a refused call changes neither state nor image"
   pub refused_answer : (frame answer : List ℕ) (call : Call) (e : SchedError) → answer_room ≤ length answer → frame_call frame ≡ Some call →
-      (step call (state_at image)).answer.status ≡ Refused e →
+      (step call (state_at image)).answer.status ≡ Err e →
       host_step image frame answer ≡ hosted 3 image (sets answer 0 (error_code e ∷ none_byte ∷ none_byte ∷ []))
   refused_answer frame answer call e room is refuses =
       let whole : step call (state_at image) ≡ refused e (state_at image) = refused-whole call (state_at image) e refuses in
       accepted_step frame answer room
-      ∙ ap (λ (c : CallOption). host_called c image answer) is
+      ∙ ap (λ (c : Option Call). host_called c image answer) is
       ∙ ap (λ (o : Outcome). host_answered o answer) whole
       ∙ (λ i. hosted (length (refusal-bytes e i)) (writes_back image a i) (sets answer 0 (refusal-bytes e i)))
 

@@ -10,6 +10,7 @@ use native.Mathlib.Omega.{arith}
 use lib.Dec.{eqb}
 use lib.ListN.{length, get_or, take, drop, replicate, length-append, length-drop, take-append-drop, get_or-eq_default}
 use lib.Seq.{take_all, take_at, drop_at, take-add, take-append_seam, drop-drop, length-take-le, get_or-drop, ext_get_or}
+use Rattle.std.proofs.lemmas.List.{get_or_default}
 use Rattle.records.specs.declared.band.QoSClass.{QoSClass}
 use Rattle.records.specs.declared.band.QoSClass.TheVariants.{UserInteractive, RealTimeIO, Background}
 use Rattle.records.specs.declared.state.ThreadState.{ThreadState}
@@ -27,7 +28,6 @@ use Rattle.rules.specs.Paper.{record_numbers, flag_number}
 use Rattle.rules.specs.State.{State, Queues, band_order, none_byte, task, of_band, queue, holder}
 use Rattle.rules.proofs.Invariant.{no_holder}
 use Rattle.rules.proofs.Says.{equal, below}
-use Rattle.scheduler.proofs.Arrays.{read-any}
 use Rattle.frames.specs.AcceptedImage.{AcceptedBase, AcceptedImage, band_byte, state_byte, in_use_byte}
 use Rattle.frames.specs.Answer.{record_widths, record_bytes}
 use Rattle.frames.specs.Bytes.{AllBytes, bytes_of, big_endian, part, number_at, total}
@@ -168,7 +168,7 @@ queue-read image Background = ap queue_in (queue-there image Background)
 pub holder-byte : (image : List ℕ) (core : ℕ) → length image ≡ image_length → core < 64 → get_or image (holders_place + core) 0 ≡ holder (state_at image) core
 unfolding state_at
 holder-byte image core whole h =
-    read-any image (holders_place + core) 0 none_byte (omega (arith, whole)) ∙ sym (get_d_part holders_place 64 image core none_byte h)
+    get_or_default image (holders_place + core) 0 none_byte (omega (arith, whole)) ∙ sym (get_d_part holders_place 64 image core none_byte h)
 
 -- and a core of 64 and above has none
 pub holder-past : (image : List ℕ) (core : ℕ) → length image ≡ image_length → 64 ≤ core → holder (state_at image) core ≡ none_byte

@@ -17,9 +17,9 @@
 --   Hosts           the host entry: what is refused, and what is done
 --
 -- How the functions are shown to meet their contracts: Runs is about numbers stored one behind the other, Encodings puts an answer together, Decodings
--- is the table of calls, Cuts the first line of a text, Tellings what one line is told, ByLine a block taken line by line, LinePuts an answer stored as
--- a line, Held what a stream holds of a line, Progress the loop over the lines of a block. Writings puts an image together. Passing is the loop that
--- tests every slot or core, RecordBytes what a record's bytes say, Counting how often each slot stands in the queues, and Accepting has each way out of
+-- is which frames are read as a call, Cuts the first line of a text, Tellings what one line is told, ByLine a block taken line by line, LinePuts an answer stored as
+-- a line, Holding what is held of a line, Progress the loop over the lines of a block. Writings puts an image together. Passing is tests one after the other, the loop
+-- over the slots or the cores, and a sum of bytes; RecordBytes what a record's bytes say, Counting how often each slot stands in the queues, and Accepting has each way out of
 -- the test of an image. Readings puts a scheduler together from the parts of an image, and Hosting has each way out of a new image, of a call on an
 -- image and of the host entry.
 pub mod Stores
@@ -44,7 +44,7 @@ mod Cuts
 mod Tellings
 mod ByLine
 mod LinePuts
-mod Held
+mod Holding
 mod Progress
 mod Writings
 mod Passing

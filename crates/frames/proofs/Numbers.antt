@@ -1,18 +1,18 @@
--- Numbers as big-endian bytes: how many bytes there are and that each is below 256, the round trip over every width both ways, and what the loops
--- that read and store a number need. Assumes nothing.
-use mathlib.Core.Path.{◌≡◌, refl, sym, ap, subst, ◌∙◌}
+-- Numbers as big-endian bytes: how many bytes there are and that each is below 256, the round trip over every width both ways, what the
+-- loop that reads a number needs, and the last bytes of those that std lists. Assumes nothing.
+use mathlib.Core.Path.{◌≡◌, refl, sym, ap, ◌∙◌}
 use mathlib.Core.List.{List, [], ◌∷◌, ◌++◌, append-nil, append_assoc}
 use Prim.Native.Nat.{ℕ, zero, suc, ◌+◌, ◌-◌, ◌*◌, ◌/◌, ◌%◌, ◌≤◌, ◌<◌, ◌^◌}
 use native.Mathlib.Omega.{arith}
-use native.Mathlib.Nat.{add-zero, zero-add, add-suc, suc-add, le_of_suc-le-suc, pow-suc, pow-le-pow_right}
+use native.Mathlib.Nat.{add-zero, zero-add, add-suc, suc-add, pow-suc, pow-succ', pow-le-pow_right, div-div-eq-div-mul}
 use native.Mathlib.Numerals.{add-one}
-use lib.ListN.{length, get_or, take, drop, set, length-append, length-drop}
-use lib.Seq.{sets, take-suc, take_all, get_or-drop}
+use lib.ListN.{length, get_or, take, drop, length-append, length-take, length-drop}
+use lib.Seq.{take-suc, take_all}
+use Rattle.std.specs.Int.{w64, byte_at, bytes_high_first, to_be_bytes}
 use Rattle.records.specs.Lists.{Each}
-use Rattle.frames.specs.Bytes.{AllBytes, big_endian_from, big_endian, bytes_of, written}
+use Rattle.frames.specs.Bytes.{AllBytes, big_endian_from, big_endian, bytes_of, part, written}
 use Rattle.frames.specs.Private.{IsNumber}
 use Rattle.frames.proofs.Elements.{each_append}
-use Rattle.frames.proofs.Stores.{sets_snoc}
 
 -- ---- the bytes of a number
 
@@ -65,56 +65,65 @@ pub bytes_of-big_endian : (bytes : List ℕ) → AllBytes bytes → bytes_of (le
 unfolding bytes_of
 bytes_of-big_endian bytes h = ap (λ (n : ℕ). bytes_of n (big_endian bytes)) (sym (zero-add (length bytes))) ∙ bytes_of-behind 0 0 bytes h
 
--- ---- reading: what was read so far is the number that stands in the bytes so far
+-- ---- reading: what was read so far is the number that the bytes so far are
 
-pub number_begin : (at : ℕ) (bytes : List ℕ) → IsNumber at 0 bytes 0
+pub number_begin : (bytes : List ℕ) → IsNumber 0 0 bytes 0
 unfolding big_endian_from
-number_begin at bytes = record { is = refl; small = omega arith }
+number_begin bytes = record { is = refl; small = omega arith }
 
-pub number_on : {at k : ℕ} {bytes : List ℕ} {read b : ℕ} → IsNumber at k bytes read → at + k < length bytes → b ≡ get_or bytes (at + k) 0 → b < 256 →
-    IsNumber at (k + 1) bytes (b + read * 256)
-number_on {at} {k} {bytes} {read} {b} so h e small =
+pub number_on : {k : ℕ} {bytes : List ℕ} {read b : ℕ} → IsNumber 0 k bytes read → k < length bytes → b ≡ get_or bytes k 0 → b < 256 →
+    IsNumber 0 (k + 1) bytes (b + read * 256)
+number_on {k} {bytes} {read} {b} so h last small =
     let turned : b + read * 256 ≡ read * 256 + b = omega arith in
-    let inside : k < length (drop at bytes) = simp length-drop (omega arith) in
-    let last : b ≡ get_or (drop at bytes) k 0 = e ∙ sym (get_or-drop at bytes k 0) in
     rw (add-one k)
     record {
       is = turned ∙ (λ i. so.is i * 256 + last i)
-          ∙ sym (big_endian_snoc 0 (take k (drop at bytes)) (get_or (drop at bytes) k 0))
-          ∙ ap big_endian (sym (take-suc (drop at bytes) k 0 inside));
+          ∙ sym (big_endian_snoc 0 (take k bytes) (get_or bytes k 0))
+          ∙ ap big_endian (sym (take-suc bytes k 0 h));
       small = omega (arith, pow-suc 256 k, so.small);
     }
 
--- no byte is left, though not all were read
-pub number_short : {at k width : ℕ} {bytes : List ℕ} {read : ℕ} → IsNumber at k bytes read → length bytes ≤ at + k → k ≤ width → IsNumber at width bytes read
-number_short {at} {k} {width} {bytes} so h le =
-    let all : length (drop at bytes) ≤ k = simp length-drop (omega arith) in
+-- the number that a part's bytes are stands at the part's place
+pub number_in : {at width : ℕ} {bytes l : List ℕ} {read : ℕ} → IsNumber 0 (length l) l read → l ≡ part at width bytes → IsNumber at width bytes read
+number_in {at} {width} {bytes} {l} so e =
+    let short : length l ≤ width = rw e (omega (arith, length-take width (drop at bytes))) in
     record {
-      is = so.is ∙ ap big_endian (take_all k (drop at bytes) all ∙ sym (take_all width (drop at bytes) (omega arith)));
-      small = omega (arith, so.small, pow-le-pow_right {n = 256} (omega arith) le);
+      is = so.is ∙ ap big_endian (take_all (length l) l (omega arith) ∙ e);
+      small = omega (arith, so.small, pow-le-pow_right {n = 256} (omega arith) short);
     }
 
--- all were read
-pub number_ended : {at k width : ℕ} {bytes : List ℕ} {read : ℕ} → IsNumber at k bytes read → k ≤ width → width ≤ k → IsNumber at width bytes read
-number_ended {at} {k} {width} {bytes} {read} so le ge =
-    let same : k ≡ width = omega arith in
-    subst (λ (n : ℕ). IsNumber at n bytes read) same so
+-- what there is of a part that runs over the end
+pub part_short : (at n width : ℕ) (bytes : List ℕ) → length bytes ≤ at + n → n ≤ width → part at n bytes ≡ part at width bytes
+part_short at n width bytes h le =
+    let all : length (drop at bytes) ≤ n = simp length-drop (omega arith) in
+    take_all n (drop at bytes) all ∙ sym (take_all width (drop at bytes) (omega arith))
 
--- there is room for one more byte in 64 bits
-pub number_room : {at k : ℕ} {bytes : List ℕ} {read : ℕ} → IsNumber at k bytes read → k < 8 → read < 256 ^ 7
-number_room so h = omega (arith, so.small, pow-le-pow_right {n = 256} (omega arith) (le_of_suc-le-suc h))
+-- ---- storing: the last bytes of the 8 that std lists, the highest first
 
--- ---- storing: the last byte, and then what is left of the number in front of it
+byte_at-div : (k x : ℕ) → byte_at (suc k) x ≡ byte_at k (x / 256)
+byte_at-div zero x = refl
+byte_at-div (suc k) x =
+    ap (λ (n : ℕ). x / n % 256) (pow-succ' 256 (suc k)) ∙ ap (λ (n : ℕ). n % 256) (sym (div-div-eq-div-mul x 256 (256 ^ suc k)))
 
-pub putting_on : (o now : List ℕ) (at k left : ℕ) → 0 < k → now ≡ set o (at + (k - 1)) (left % 256) →
-    sets now at (bytes_of (k - 1) (left / 256)) ≡ sets o at (bytes_of k left)
+high_first_snoc : (k x : ℕ) → bytes_high_first (suc k) x ≡ bytes_high_first k (x / 256) ++ (x % 256 ∷ [])
+high_first_snoc zero x = refl
+high_first_snoc (suc k) x = λ i. byte_at-div k x i ∷ high_first_snoc k x i
+
+bytes_of-high_first : (width x : ℕ) → bytes_high_first width x ≡ bytes_of width x
 unfolding bytes_of
-putting_on o now at zero left h e = absurd (omega arith)
-putting_on o now at (suc k) left h e =
-    let less : suc k - 1 ≡ k = omega arith in
-    rw (e, less, sets_snoc o at (bytes_of k (left / 256)) (left % 256), length-bytes_of k (left / 256))
+bytes_of-high_first zero x = refl
+bytes_of-high_first (suc width) x = high_first_snoc width x ∙ ap (λ (l : List ℕ). l ++ (x % 256 ∷ [])) (bytes_of-high_first width (x / 256))
 
-pub putting_ended : (now : List ℕ) (at k left : ℕ) → k ≤ 0 → sets now at (bytes_of k left) ≡ now
-unfolding bytes_of
-putting_ended now at zero left h = refl
-putting_ended now at (suc k) left h = absurd (omega arith)
+drop-high_first : (n k width x : ℕ) → k ≡ n + width → drop n (bytes_high_first k x) ≡ bytes_high_first width x
+drop-high_first zero k width x e = ap (λ (m : ℕ). bytes_high_first m x) (e ∙ zero-add width)
+drop-high_first (suc n) zero width x e = absurd (omega arith)
+drop-high_first (suc n) (suc k) width x e = drop-high_first n k width x (omega arith)
+
+pub last_bytes : (width x : ℕ) → width ≤ 8 → drop (8 - width) (to_be_bytes w64 x) ≡ bytes_of width x
+last_bytes width x h = drop-high_first (8 - width) 8 width x (omega arith) ∙ bytes_of-high_first width x
+
+-- as a slice from there on has them
+pub last_bytes_stored : (width x : ℕ) {bytes : List ℕ} → width ≤ 8 → bytes ≡ to_be_bytes w64 x → take (8 - (8 - width)) (drop (8 - width) bytes) ≡ bytes_of width x
+last_bytes_stored width x {bytes} h e =
+    let last : drop (8 - width) bytes ≡ bytes_of width x = ap (drop (8 - width)) e ∙ last_bytes width x h in
+    ap (take (8 - (8 - width))) last ∙ take_all (8 - (8 - width)) (bytes_of width x) (omega (arith, length-bytes_of width x))

@@ -1,26 +1,25 @@
--- Loops that test every number below 64, one that sums bytes which are to be 0, and a test that a call answered. Assumes nothing.
-use mathlib.Core.Path.{◌≡◌, refl, sym, ap, subst, ◌∙◌}
-use mathlib.Core.Bool.{Bool, true, false, not, ◌&&◌, and-false, and-true, and_assoc, and_comm}
+-- Tests one after the other, loops that test every number below 64, and a sum of bytes that are to be 0. Assumes nothing.
+use mathlib.Core.Path.{◌≡◌, refl, sym, ap, ◌∙◌}
+use mathlib.Core.Bool.{Bool, true, false, ◌&&◌, and-false, and-true, and_assoc, and_comm}
 use mathlib.Core.List.{List, [], ◌∷◌, ◌++◌}
 use Prim.Native.Nat.{ℕ, zero, suc, ◌+◌, ◌≤◌, ◌<◌}
 use native.Mathlib.Nat.{zero-add}
 use native.Mathlib.Numerals.{add-one}
 use native.Mathlib.Omega.{arith}
-use borrow.Author.Tests.{ltb-true, ltb-false, not-true, not-false, ne_eqb}
+use borrow.Author.Tests.{ltb-true, ltb-false, ne_eqb}
 use lib.Dec.{ltb, eqb}
-use lib.ListN.{length, get_or, take}
-use lib.Seq.{take-suc}
+use Rattle.std.specs.List.{fold, sum}
 use Rattle.records.proofs.Cases.{split}
 use Rattle.records.specs.Lists.{every, every_below}
 use Rattle.frames.specs.Private.{all_zero}
 
--- a test that a call answered by r, after the code asked `!r`
-module _ {test r : Bool} (is : r ≡ test) where
-  pub fails : not r ≡ true → test ≡ false
-  fails h = sym is ∙ not-true r h
+-- one more test behind those before it, whose answer v is; it is made where they passed
+module _ {v w a : Bool} (so : v ≡ a) where
+  pub passed_on : {b : Bool} → v ≡ true → w ≡ b → w ≡ a && b
+  passed_on h e = rw (sym so ∙ h) e
 
-  pub holds : not r ≡ false → test ≡ true
-  holds h = sym is ∙ not-false r h
+  pub failed_on : (b : Bool) → v ≡ false → w ≡ v → w ≡ a && b
+  failed_on b h e = rw (sym so ∙ h) (e ∙ h)
 
 -- ---- the loops: every number so far has passed
 
@@ -41,27 +40,13 @@ fails-below (suc n) k test h e =
     (λ low. rw (fails-below n k test (ltb-true k n low) e, and-false))
     (λ high. let last : n ≡ k = omega (arith, ltb-false k n high) in rw (last, e))
 
+pub passing_failed : (test : ℕ → Bool) {k : ℕ} {r : Bool} → k < 64 → r ≡ test k → r ≡ false → every_below 64 test ≡ false
+passing_failed test {k} h is fail = fails-below 64 k test h (sym is ∙ fail)
+
 module _ {test : ℕ → Bool} {k : ℕ} (so : Passing test k) where
-  pub passing_on : {r : Bool} → k < 64 → r ≡ test k → not r ≡ false → Passing test (k + 1)
+  pub passing_on : {r : Bool} → k < 64 → r ≡ test k → r ≡ true → Passing test (k + 1)
   unfolding every_below
-  passing_on h is passes = rw (add-one k) (record { inside = omega arith; so_far = rw (holds is passes, so.so_far) })
-
-  pub passing_failed : {r : Bool} → k < 64 → r ≡ test k → not r ≡ true → false ≡ every_below 64 test
-  passing_failed h is fail = sym (fails-below 64 k test h (fails is fail))
-
-  pub passing_ended : 64 ≤ k → true ≡ every_below 64 test
-  passing_ended h = sym (subst (λ (n : ℕ). every_below n test ≡ true) (omega (arith, so.inside)) so.so_far)
-
--- two tests in one loop: both are to pass, and one that fails is enough
-module _ {a b : ℕ → Bool} {k : ℕ} (so : Passing a k × Passing b k) where
-  pub first_failed : {r : Bool} → k < 64 → r ≡ a k → not r ≡ true → false ≡ every_below 64 a && every_below 64 b
-  first_failed h is fail = ap (λ (t : Bool). t && every_below 64 b) (passing_failed so.0 h is fail)
-
-  pub second_failed : {r : Bool} → k < 64 → r ≡ b k → not r ≡ true → false ≡ every_below 64 a && every_below 64 b
-  second_failed h is fail = sym (and-false (every_below 64 a)) ∙ ap (λ (t : Bool). every_below 64 a && t) (passing_failed so.1 h is fail)
-
-  pub both_ended : 64 ≤ k → true ≡ every_below 64 a && every_below 64 b
-  both_ended h = λ i. passing_ended so.0 h i && passing_ended so.1 h i
+  passing_on h is passes = rw (add-one k) (record { inside = omega arith; so_far = rw (sym is ∙ passes, so.so_far) })
 
 -- ---- bytes that are to be 0
 
@@ -75,18 +60,16 @@ zero_snoc (a ∷ bytes) b =
     ∙ and_assoc (eqb b 0) (eqb a 0) (all_zero bytes)
 
 -- a sum is 0 where both its parts are
-sum_zero : (a b : ℕ) → eqb (a + b) 0 ≡ eqb b 0 && eqb a 0
-sum_zero zero b = rw (zero-add b, and-true)
-sum_zero (suc a) b = ne_eqb (suc a + b) 0 (λ e. omega (arith, e)) ∙ sym (rw (ne_eqb (suc a) 0 (λ e. omega (arith, e)), and-false))
+sum_zero : (a b : ℕ) → eqb (a + b) 0 ≡ eqb a 0 && eqb b 0
+sum_zero zero b = rw (zero-add b)
+sum_zero (suc a) b = ne_eqb (suc a + b) 0 (λ e. omega (arith, e)) ∙ sym (rw (ne_eqb (suc a) 0 (λ e. omega (arith, e))))
 
-pub zeros_begin : (bytes : List ℕ) → eqb 0 0 ≡ all_zero (take 0 bytes)
+-- and one of many where all are
+zero_sum_from : (a : ℕ) (bytes : List ℕ) → eqb (fold ◌+◌ a bytes) 0 ≡ eqb a 0 && all_zero bytes
 unfolding every
-zeros_begin bytes = refl
+zero_sum_from a [] = sym (and-true (eqb a 0))
+zero_sum_from a (b ∷ bytes) =
+    zero_sum_from (a + b) bytes ∙ ap (λ (t : Bool). t && all_zero bytes) (sum_zero a b) ∙ and_assoc (eqb a 0) (eqb b 0) (all_zero bytes)
 
-pub zeros_on : (bytes : List ℕ) (k sum : ℕ) {b : ℕ} → k < length bytes → eqb sum 0 ≡ all_zero (take k bytes) → b ≡ get_or bytes k 0 →
-    eqb (sum + b) 0 ≡ all_zero (take (k + 1) bytes)
-zeros_on bytes k sum {b} h so is =
-    sum_zero sum b
-    ∙ (λ i. eqb (is i) 0 && so i)
-    ∙ sym (zero_snoc (take k bytes) (get_or bytes k 0))
-    ∙ ap all_zero (sym (rw (add-one k) (take-suc bytes k 0 h)))
+pub zero_sum : (bytes : List ℕ) → eqb (sum bytes) 0 ≡ all_zero bytes
+zero_sum bytes = zero_sum_from 0 bytes

@@ -1,54 +1,49 @@
--- What the 47 bytes of a record say: the numbers that the code reads are the fields of the record that they stand for, and each way out of the
--- tests of a record. Where a number stands in a record is layout.rt's table. Assumes nothing.
-use mathlib.Core.Path.{◌≡◌, refl, sym, ap, ◌∙◌}
-use mathlib.Core.Bool.{Bool, true, false, not, ◌&&◌, ◌||◌, beq, and-false}
+-- What the 47 bytes of a record say: the numbers that the code reads are the fields of the record that they stand for, and the tests of a record one
+-- after the other. Where a number stands in a record is layout.rt's table. Assumes nothing.
+use mathlib.Core.Path.{◌≡◌, refl, ap, ◌∙◌}
+use mathlib.Core.Bool.{Bool, true, false, not, ◌&&◌, ◌||◌, beq, and_assoc}
 use mathlib.Core.List.{List}
-use Prim.Native.Nat.{ℕ, ◌≤◌, ◌<◌}
-use native.Mathlib.Omega.{arith}
-use borrow.Author.Tests.{not-true, not-false, lt-ltb, le-ltb, eq-eqb, ne_eqb}
-use lib.Dec.{ltb, eqb}
-use Rattle.records.specs.declared.band.BandOption.{BandOption}
-use Rattle.records.specs.declared.state.StateOption.{StateOption}
-use Rattle.records.specs.declared.state.ThreadState.TheVariants.{Terminated}
+use Prim.Native.Nat.{ℕ}
+use lib.Dec.{eqb, ltb}
+use Rattle.std.specs.Prelude.{Option, None, Some, Result, ok_or}
+use Rattle.std.specs.Result.{result_unwrap_or}
+use Rattle.records.specs.declared.band.QoSClass.{QoSClass}
+use Rattle.records.specs.declared.code.UnknownCode.{UnknownCode}
+use Rattle.records.specs.declared.state.ThreadState.{ThreadState}
 use Rattle.records.specs.declared.task.TaskControlBlock.{TaskControlBlock}
+use Rattle.records.specs.declared.state.ThreadState.TheVariants.{Terminated}
 use Rattle.records.specs.Band.{slice, coded_band}
+use Rattle.records.specs.Code.{unknown_code}
+use Rattle.records.specs.Task.{empty_record}
 use Rattle.records.specs.ThreadState.{coded_state, is_state}
-use Rattle.rules.specs.Accepted.{record_fits, may_hold}
-use Rattle.frames.specs.Bytes.{number_at}
-use Rattle.frames.specs.Private.{IsNumber}
-use Rattle.frames.specs.Image.{or_empty_band, band_of, or_empty_state, state_of, record_in}
+use Rattle.rules.specs.Accepted.{record_fits}
 use Rattle.frames.specs.AcceptedImage.{codes_fit}
-use Rattle.frames.proofs.Passing.{fails, holds}
+use Rattle.frames.specs.Image.{or_empty_band, band_of, or_empty_state, state_of, record_in}
+use Rattle.frames.specs.Private.{IsNumber}
 
--- ---- the numbers of a record
+-- a code that is read, or what is put where it is none
 
-module _ {bytes : List ℕ} {r : ℕ} where
+band_or : (b : Option QoSClass) → result_unwrap_or (ok_or b unknown_code) empty_record.qos ≡ or_empty_band b
+band_or None = refl
+band_or (Some q) = refl
+
+state_or : (s : Option ThreadState) → result_unwrap_or (ok_or s unknown_code) empty_record.state ≡ or_empty_state s
+state_or None = refl
+state_or (Some s) = refl
+
+module _ {bytes : List ℕ} {n : ℕ} where
   -- band and state, by what their code reads as
-  pub band_is : {b : BandOption} → IsNumber 4 1 bytes r → b ≡ coded_band r → or_empty_band b ≡ (record_in bytes).qos
+  pub band_read : {r : Result QoSClass UnknownCode} {q : QoSClass} → IsNumber 4 1 bytes n → r ≡ ok_or (coded_band n) unknown_code →
+      q ≡ result_unwrap_or r empty_record.qos → q ≡ (record_in bytes).qos
   unfolding record_in
-  band_is n e = ap or_empty_band e ∙ ap band_of n.is
+  band_read is code e = e ∙ ap (λ (x : Result QoSClass UnknownCode). result_unwrap_or x empty_record.qos) code ∙ band_or (coded_band n) ∙ ap band_of is.is
 
-  pub state_is : {s : StateOption} → IsNumber 5 1 bytes r → s ≡ coded_state r → or_empty_state s ≡ (record_in bytes).state
+  pub state_read : {r : Result ThreadState UnknownCode} {s : ThreadState} → IsNumber 5 1 bytes n → r ≡ ok_or (coded_state n) unknown_code →
+      s ≡ result_unwrap_or r empty_record.state → s ≡ (record_in bytes).state
   unfolding record_in
-  state_is n e = ap or_empty_state e ∙ ap state_of n.is
+  state_read is code e = e ∙ ap (λ (x : Result ThreadState UnknownCode). result_unwrap_or x empty_record.state) code ∙ state_or (coded_state n) ∙ ap state_of is.is
 
-  mask_is : IsNumber 30 8 bytes r → r ≡ (record_in bytes).cpu_affinity
-  unfolding record_in
-  mask_is n = n.is
-
-  budget_is : IsNumber 38 4 bytes r → r ≡ (record_in bytes).slice_budget_us
-  unfolding record_in
-  budget_is n = n.is
-
-  consumed_is : IsNumber 42 4 bytes r → r ≡ (record_in bytes).consumed_slice_us
-  unfolding record_in
-  consumed_is n = n.is
-
-  pub in_use_is : IsNumber 46 1 bytes r → eqb r 1 ≡ (record_in bytes).in_use
-  unfolding record_in
-  in_use_is n = ap (λ (u : ℕ). eqb u 1) n.is
-
--- the record that all ten make
+-- the record that all ten numbers make
 pub record_read : {bytes : List ℕ} {r : TaskControlBlock} → IsNumber 0 4 bytes r.tid.0 → r.qos ≡ (record_in bytes).qos → r.state ≡ (record_in bytes).state →
     IsNumber 6 8 bytes r.context_handle → IsNumber 14 8 bytes r.cr3 → IsNumber 22 8 bytes r.rsp0 → IsNumber 30 8 bytes r.cpu_affinity →
     IsNumber 38 4 bytes r.slice_budget_us → IsNumber 42 4 bytes r.consumed_slice_us → r.in_use ≡ (record_in bytes).in_use → r ≡ record_in bytes
@@ -66,26 +61,9 @@ record_read tid qos state context cr3 rsp0 mask budget consumed in_use_lem = λ 
   in_use = in_use_lem i;
 }
 
--- ---- a record
+-- ---- the tests of a record, one after the other
 
-module _ {bytes : List ℕ} where
-  pub codes_band : {b : ℕ} → IsNumber 4 1 bytes b → 2 < b → false ≡ codes_fit bytes
-  codes_band n h = sym (rw (le-ltb (number_at 4 1 bytes) 3 (omega (arith, n.is))))
-
-  pub codes_state : {s : ℕ} → IsNumber 5 1 bytes s → 3 < s → false ≡ codes_fit bytes
-  codes_state n h = sym (rw (le-ltb (number_at 5 1 bytes) 4 (omega (arith, n.is)), and-false))
-
-  pub codes_rest : {b s u : ℕ} → IsNumber 4 1 bytes b → b ≤ 2 → IsNumber 5 1 bytes s → s ≤ 3 → IsNumber 46 1 bytes u → ltb u 2 ≡ codes_fit bytes
-  codes_rest b hb s hs u =
-      rw (lt-ltb (number_at 4 1 bytes) 3 (omega (arith, b.is)), lt-ltb (number_at 5 1 bytes) 4 (omega (arith, s.is)), u.is)
-
-pub budget-none : (b s : ℕ) → b ≡ 0 → eqb b 0 ≡ eqb b 0 || eqb b s
-budget-none b s e = rw (eq-eqb b 0 e)
-
-pub budget-some : (b s : ℕ) → (b ≡ 0 → ⊥) → eqb b s ≡ eqb b 0 || eqb b s
-budget-some b s ne = rw (ne_eqb b 0 ne)
-
-same-is_not : (a b : Bool) → beq a (not b) ≡ not (beq a b)
+same-is_not : (a b : Bool) → not (beq a b) ≡ beq a (not b)
 same-is_not true true = refl
 same-is_not true false = refl
 same-is_not false true = refl
@@ -95,39 +73,32 @@ module _ (bytes : List ℕ) where
   abbrev t : TaskControlBlock
   t = record_in bytes
 
-  abbrev fits : Bool
-  fits = codes_fit bytes && record_fits t
+  abbrev pub codes_use : Bool
+  codes_use = codes_fit bytes && beq t.in_use (not (is_state t.state Terminated))
 
-  pub record_codes : {r : Bool} → r ≡ codes_fit bytes → not r ≡ true → false ≡ fits
-  record_codes e h = sym (rw (fails e h))
+  abbrev pub codes_mask : Bool
+  codes_mask = codes_use && not (eqb t.cpu_affinity 0)
 
-  -- in use and Terminated, or neither
-  use_is : {u e : Bool} → u ≡ t.in_use → e ≡ is_state t.state Terminated →
-      beq t.in_use (not (is_state t.state Terminated)) ≡ not (beq u e)
-  use_is u e = rw (sym u, sym e, same-is_not)
+  abbrev pub codes_budget : Bool
+  codes_budget = codes_mask && (eqb t.slice_budget_us 0 || eqb t.slice_budget_us (slice t.qos))
 
-  pub record_use : {u e : Bool} → u ≡ t.in_use → e ≡ is_state t.state Terminated → beq u e ≡ true → false ≡ fits
-  record_use u e h = sym (rw (use_is u e ∙ ap not h, and-false))
+  -- in use and Terminated differ
+  pub use_tested : {r u e : Bool} → r ≡ not (beq u e) → u ≡ t.in_use → e ≡ is_state t.state Terminated → r ≡ beq t.in_use (not (is_state t.state Terminated))
+  use_tested r u e = r ∙ (λ i. not (beq (u i) (e i))) ∙ same-is_not t.in_use (is_state t.state Terminated)
 
-  pub record_mask : {m : ℕ} → IsNumber 30 8 bytes m → m ≡ 0 → false ≡ fits
-  record_mask m h = sym (rw (eq-eqb t.cpu_affinity 0 (sym (mask_is m) ∙ h), and-false, and-false))
+  pub mask_tested : {r : Bool} {m : ℕ} → r ≡ not (eqb m 0) → IsNumber 30 8 bytes m → r ≡ not (eqb t.cpu_affinity 0)
+  unfolding record_in
+  mask_tested r m = r ∙ ap (λ (n : ℕ). not (eqb n 0)) m.is
 
-  -- a budget b, tested with the slice s
-  module _ {b s : ℕ} {r : Bool} (budget : IsNumber 38 4 bytes b) (size : s ≡ slice t.qos) (is : r ≡ eqb b 0 || eqb b s) where
-    budget_fits : eqb t.slice_budget_us 0 || eqb t.slice_budget_us (slice t.qos) ≡ r
-    budget_fits = sym (is ∙ rw (budget_is budget, size))
+  pub budget_tested : {r : Bool} {b s : ℕ} → r ≡ eqb b 0 || eqb b s → IsNumber 38 4 bytes b → s ≡ slice t.qos →
+      r ≡ eqb t.slice_budget_us 0 || eqb t.slice_budget_us (slice t.qos)
+  unfolding record_in
+  budget_tested r b s = r ∙ (λ i. eqb (b.is i) 0 || eqb (b.is i) (s i))
 
-    pub record_budget : not r ≡ true → false ≡ fits
-    record_budget h = sym (rw (budget_fits ∙ not-true r h, and-false, and-false))
+  pub consumed_tested : {n s : ℕ} → IsNumber 42 4 bytes n → s ≡ slice t.qos → ltb n s ≡ ltb t.consumed_slice_us (slice t.qos)
+  unfolding record_in
+  consumed_tested n s = λ i. ltb (n.is i) (s i)
 
-    pub record_rest : {c u e : Bool} {m n : ℕ} → c ≡ codes_fit bytes → not c ≡ false →
-        u ≡ t.in_use → e ≡ is_state t.state Terminated → beq u e ≡ false →
-        IsNumber 30 8 bytes m → (m ≡ 0 → ⊥) → not r ≡ false → IsNumber 42 4 bytes n → ltb n s ≡ fits
-    record_rest c hc u e apart m some hr n =
-        rw (holds c hc, use_is u e ∙ ap not apart, ne_eqb t.cpu_affinity 0 (λ z. some (mask_is m ∙ z)), budget_fits ∙ not-false r hr, consumed_is n, size)
-
-  pub hold_unused : {r : Bool} → r ≡ t.in_use → r ≡ false → false ≡ may_hold t
-  hold_unused e h = sym (rw (sym e ∙ h))
-
-  pub hold_used : {r : Bool} {b s : ℕ} → r ≡ t.in_use → r ≡ true → IsNumber 38 4 bytes b → s ≡ slice t.qos → eqb b s ≡ may_hold t
-  hold_used e h b s = rw (sym e ∙ h, budget_is b, s)
+  -- all of them
+  pub record_tested : {r : Bool} → r ≡ codes_budget && ltb t.consumed_slice_us (slice t.qos) → r ≡ codes_fit bytes && record_fits t
+  record_tested e = e ∙ simp and_assoc

@@ -7,11 +7,11 @@ use native.Mathlib.Omega.{arith}
 use borrow.Author.Tests.{ltb-true, ltb-false, ne_eqb}
 use lib.Dec.{ltb}
 use lib.ListN.{length, get_or, get_or-eq_default}
+use Rattle.std.specs.Prelude.{Option, None}
+use Rattle.rules.specs.declared.call.Call.{Call}
 use Rattle.records.proofs.Cases.{split, by_if}
 use Rattle.records.specs.Lists.{every_below}
 use Rattle.rules.proofs.Says.{at_most, below}
-use Rattle.frames.specs.declared.decode.CallOption.{CallOption}
-use Rattle.frames.specs.declared.decode.CallOption.TheVariants.{None}
 use Rattle.frames.specs.Frame.{argument_widths, arguments_length, calls_in, frame_call}
 use Rattle.frames.specs.Bytes.{total}
 use Rattle.rules.specs.State.{State}
@@ -45,7 +45,7 @@ length_digits (d ∷ e ∷ digits) hex = omega (arith, length_digits digits ((an
 pub long-line : (line : List ℕ) → longest_line < length line → line_call line ≡ None
 unfolding line_call
 long-line line long =
-    by_if (λ (o : CallOption). o ≡ None) (is_hex line)
+    by_if (λ (o : Option Call). o ≡ None) (is_hex line)
     (λ hex. long-frame (from_hex line) (omega (arith, length_digits line hex)))
     (λ _. refl)
 
@@ -53,4 +53,4 @@ long-line line long =
 pub refused-line : (line : List ℕ) (s : State) → line_call line ≡ None
     → ((said_to line s).state ≡ s) × (line_text (said_to line s).bytes ≡ 48 ∷ 57 ∷ 102 ∷ 102 ∷ 102 ∷ 102 ∷ newline ∷ [])
 unfolding said_to line_text to_hex
-refused-line line s e = (ap (λ (c : CallOption). (said c s).state) e, ap (λ (c : CallOption). line_text (said c s).bytes) e)
+refused-line line s e = (ap (λ (c : Option Call). (said c s).state) e, ap (λ (c : Option Call). line_text (said c s).bytes) e)

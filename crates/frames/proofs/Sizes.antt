@@ -6,22 +6,19 @@ use Prim.Native.Nat.{ℕ, suc, ◌+◌, ◌≤◌}
 use native.Mathlib.Nat.{suc_inj, suc-ne-zero}
 use native.Mathlib.Omega.{arith}
 use lib.ListN.{length, length-append}
-use Rattle.records.specs.declared.ids.SlotOption.{SlotOption}
+use Rattle.std.specs.Prelude.{Option, None, Some}
+use Rattle.rules.specs.declared.call.Call.{Call}
+use Rattle.rules.specs.declared.answer.Pick.{Pick}
+use Rattle.records.specs.declared.ids.Slot.{Slot}
 use Rattle.records.specs.declared.task.TaskControlBlock.{TaskControlBlock}
 use Rattle.rules.specs.declared.answer.Answer.{Answer}
 use Rattle.rules.specs.declared.answer.ContextSwitchTarget.{ContextSwitchTarget}
 use Rattle.rules.specs.declared.answer.ContextSwitchTarget.TheVariants as target
-use Rattle.rules.specs.declared.answer.PickOption.{PickOption}
-use Rattle.rules.specs.declared.answer.PickOption.TheVariants as pick
-use Rattle.rules.specs.declared.answer.PlanOption.TheVariants as plan
-use Rattle.rules.specs.declared.answer.TaskOption.TheVariants as task
 use Rattle.rules.specs.declared.answer.Value.{Value}
 use Rattle.rules.specs.declared.answer.Value.TheVariants as value
 use Rattle.rules.specs.Paper.{paper, status_number, pick_numbers, value_numbers, record_numbers, slot_number, target_numbers}
 use Rattle.rules.specs.State.{State}
 use Rattle.rules.specs.Step.{step}
-use Rattle.frames.specs.declared.decode.CallOption.{CallOption}
-use Rattle.frames.specs.declared.decode.CallOption.TheVariants as call
 use Rattle.frames.specs.Answer.{record_widths, record_bytes, value_widths, answer_bytes}
 use Rattle.frames.specs.Private.{value_bytes}
 use Rattle.frames.specs.Bytes.{bytes_of, written, total}
@@ -53,7 +50,7 @@ pub length-record_bytes : (t : TaskControlBlock) → length (record_bytes t) ≡
 unfolding record_bytes
 length-record_bytes t = length-written record_widths (record_numbers t) refl
 
-as_many_plan : (previous : SlotOption) (t : ContextSwitchTarget) → 3 ≡ length (slot_number previous ∷ target_numbers t)
+as_many_plan : (previous : Option Slot) (t : ContextSwitchTarget) → 3 ≡ length (slot_number previous ∷ target_numbers t)
 as_many_plan previous target.Idle = refl
 as_many_plan previous (target.Task s cr3) = refl
 
@@ -62,11 +59,11 @@ pub as_many : (v : Value) → length (value_widths v) ≡ length (value_numbers 
 as_many value.Nothing = refl
 as_many (value.Slot s) = refl
 as_many (value.Core c) = refl
-as_many (value.Plan plan.None) = refl
-as_many (value.Plan (plan.Some p)) = ap suc (as_many_plan p.prev_task_idx p.target)
+as_many (value.Plan None) = refl
+as_many (value.Plan (Some p)) = ap suc (as_many_plan p.prev_task_idx p.target)
 as_many (value.Flag b) = refl
-as_many (value.Task task.None) = refl
-as_many (value.Task (task.Some t)) = refl
+as_many (value.Task None) = refl
+as_many (value.Task (Some t)) = refl
 as_many (value.Micros n) = refl
 
 pub length-value_bytes : (v : Value) → length (value_bytes v) ≡ total (value_widths v)
@@ -77,11 +74,11 @@ pub value_fits : (v : Value) → total (value_widths v) ≤ 48
 value_fits value.Nothing = omega arith
 value_fits (value.Slot s) = omega arith
 value_fits (value.Core c) = omega arith
-value_fits (value.Plan plan.None) = omega arith
-value_fits (value.Plan (plan.Some p)) = omega arith
+value_fits (value.Plan None) = omega arith
+value_fits (value.Plan (Some p)) = omega arith
 value_fits (value.Flag b) = omega arith
-value_fits (value.Task task.None) = omega arith
-value_fits (value.Task (task.Some t)) = omega arith
+value_fits (value.Task None) = omega arith
+value_fits (value.Task (Some t)) = omega arith
 value_fits (value.Micros n) = omega arith
 
 -- status, pick, value
@@ -89,15 +86,15 @@ pub answer_bytes_are : (a : Answer) → answer_bytes a ≡ bytes_of 1 (status_nu
 unfolding answer_bytes value_bytes paper bytes_of
 answer_bytes_are a = by_pick a.pick
   where
-    by_pick : (p : PickOption) →
+    by_pick : (p : Option Pick) →
         written (1 ∷ 1 ∷ 1 ∷ value_widths a.value) (status_number a.status ∷ (pick_numbers p ++ value_numbers a.value))
         ≡ bytes_of 1 (status_number a.status) ++ (written (1 ∷ 1 ∷ []) (pick_numbers p) ++ written (value_widths a.value) (value_numbers a.value))
-    by_pick pick.None = refl
-    by_pick (pick.Some p) = refl
+    by_pick None = refl
+    by_pick (Some p) = refl
 
-pub length-pick : (p : PickOption) → length (written (1 ∷ 1 ∷ []) (pick_numbers p)) ≡ 2
-length-pick pick.None = length-written (1 ∷ 1 ∷ []) (pick_numbers pick.None) refl
-length-pick (pick.Some p) = length-written (1 ∷ 1 ∷ []) (pick_numbers (pick.Some p)) refl
+pub length-pick : (p : Option Pick) → length (written (1 ∷ 1 ∷ []) (pick_numbers p)) ≡ 2
+length-pick None = length-written (1 ∷ 1 ∷ []) (pick_numbers None) refl
+length-pick (Some p) = length-written (1 ∷ 1 ∷ []) (pick_numbers (Some p)) refl
 
 pub length-answer_bytes : (a : Answer) → length (answer_bytes a) ≡ 3 + length (value_bytes a.value)
 length-answer_bytes a =
@@ -115,6 +112,6 @@ pub said_fits : (line : List ℕ) (s : State) → length (said_to line s).bytes 
 unfolding said_to
 said_fits line s = fits (line_call line)
   where
-    fits : (c : CallOption) → length (said c s).bytes ≤ 51
-    fits call.None = omega arith
-    fits (call.Some c) = answer-fits (step c s).answer
+    fits : (c : Option Call) → length (said c s).bytes ≤ 51
+    fits None = omega arith
+    fits (Some c) = answer-fits (step c s).answer

@@ -8,8 +8,7 @@ use Prim.Native.Nat.{ℕ, ◌<◌, ◌^◌}
 use native.Mathlib.Omega.{arith}
 use lib.Dec.{eqb}
 use lib.ListN.{length, get_or-replicate, drop}
-use Rattle.records.specs.declared.band.BandOption.{BandOption}
-use Rattle.records.specs.declared.band.BandOption.TheVariants as band
+use Rattle.std.specs.Prelude.{Option, None, Some}
 use Rattle.records.specs.declared.band.QoSClass.{QoSClass}
 use Rattle.records.specs.declared.band.QoSClass.TheVariants.{UserInteractive, RealTimeIO, Background}
 use Rattle.records.specs.declared.ids.Slot.{Slot}
@@ -39,8 +38,6 @@ use Rattle.rules.specs.Took.{Reach}
 use Rattle.rules.proofs.Ways.{PEnd, picks_one, picks_none, P-way, Requeued, queued, not_queued, requeued_way, Deed, by_create, by_affinity, by_terminate}
 use Rattle.rules.proofs.Ways.{by_block, by_wake, by_queueing, Timed, at_once, later, Approach, straight, clearing, slice_ends, yielding, Way, refuses, tells}
 use Rattle.rules.proofs.Ways.{does, keeps, comes, way}
-use Rattle.frames.specs.declared.decode.CallOption.{CallOption}
-use Rattle.frames.specs.declared.decode.CallOption.TheVariants.{None, Some}
 use Rattle.frames.specs.AcceptedImage.{AcceptedImage}
 use Rattle.frames.specs.Bytes.{AllBytes, number_at, Fit}
 use Rattle.frames.specs.Fits.{FitsCall, HasImage}
@@ -206,14 +203,14 @@ image_has_image image a = has_image (state_at image) (accepted-state image a) (i
 -- ---- calls that are read from frames
 
 -- no call, or one whose numbers fit
-abbrev FitsRead : CallOption → Type 0
+abbrev FitsRead : Option Call → Type 0
 FitsRead None = Unit {0}
 FitsRead (Some call) = FitsCall call
 
 module _ (frame : List ℕ) (h : AllBytes frame) where
-  create_fits : (b : BandOption) → FitsRead (create_in b frame)
-  create_fits band.None = tt
-  create_fits (band.Some q) = (number_small 1 4 frame h, number_small 6 8 frame h, number_small 14 8 frame h, number_small 22 8 frame h)
+  create_fits : (b : Option QoSClass) → FitsRead (create_in b frame)
+  create_fits None = tt
+  create_fits (Some q) = (number_small 1 4 frame h, number_small 6 8 frame h, number_small 14 8 frame h, number_small 22 8 frame h)
 
   -- the table of calls
   table_fits : Each FitsRead (calls_in frame)
@@ -235,7 +232,7 @@ pub frame-fits : (frame : List ℕ) (call : Call) → AllBytes frame → frame_c
 frame-fits frame call h is = subst FitsRead is (read_fits frame h)
 
 -- what a frame makes of a state that has an image has one too
-said-image : (c : CallOption) (s : State) → FitsRead c → HasImage s → HasImage (said c s).state
+said-image : (c : Option Call) (s : State) → FitsRead c → HasImage s → HasImage (said c s).state
 said-image None s fit has = has
 said-image (Some call) s fit has = call_has_image call s fit has
 

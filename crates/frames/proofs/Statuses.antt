@@ -1,15 +1,14 @@
 -- The status of an image: 7 for another length, then 8 where it is not accepted, and accepted is what the conditions say. Assumes nothing.
-use mathlib.Core.Path.{◌≡◌, refl, sym, ap, ◌∙◌}
+use mathlib.Core.Path.{◌≡◌, refl, sym, ◌∙◌}
 use mathlib.Core.Bool.{Bool, true, false, cond, not}
 use mathlib.Core.List.{List}
 use Prim.Native.Nat.{ℕ}
-use native.Mathlib.Omega.{arith}
-use borrow.Author.Tests.{eq-eqb, ne_eqb, not-true, not-false}
+use borrow.Author.Tests.{eq-eqb, ne_eqb}
 use lib.Dec.{eqb}
 use lib.ListN.{length}
 use Rattle.records.proofs.Cases.{split}
-use Rattle.frames.specs.declared.read.ImageStatus.{ImageStatus}
-use Rattle.frames.specs.declared.read.ImageStatus.TheVariants as read
+use Rattle.std.specs.Prelude.{Result, Ok, Err}
+use Rattle.frames.specs.declared.refusal.HostError.{HostError}
 use Rattle.frames.specs.declared.refusal.HostError.TheVariants.{WrongLength, NotAccepted}
 use Rattle.frames.specs.AcceptedImage.{AcceptedImage, accepts_image}
 use Rattle.frames.specs.ReadWrite.{image_status}
@@ -17,28 +16,30 @@ use Rattle.frames.specs.Image.{image_length}
 use Rattle.frames.proofs.AcceptedImages.{accepts-image}
 
 module _ (image : List ℕ) where
-  pub status_length : (length image ≡ image_length → ⊥) → read.Refused WrongLength ≡ image_status image
+  pub status_length : (length image ≡ image_length → ⊥) → image_status image ≡ Err WrongLength
   unfolding image_status
-  status_length other = sym (rw (ne_eqb (length image) image_length other))
+  status_length other = rw (ne_eqb (length image) image_length other)
 
-  pub status_refused : {r : Bool} → length image ≡ image_length → r ≡ accepts_image image → not r ≡ true → read.Refused NotAccepted ≡ image_status image
-  unfolding image_status
-  status_refused {r} long is h = sym (rw (eq-eqb (length image) image_length long, sym is ∙ not-true r h))
+  module _ {r : Bool} (long : length image ≡ image_length) (is : r ≡ accepts_image image) where
+    pub status_refused : r ≡ false → image_status image ≡ Err NotAccepted
+    unfolding image_status
+    status_refused h = rw (eq-eqb (length image) image_length long, sym is ∙ h)
 
-  pub status_passed : {r : Bool} → length image ≡ image_length → r ≡ accepts_image image → not r ≡ false → read.Accepted ≡ image_status image
-  unfolding image_status
-  status_passed {r} long is h = sym (rw (eq-eqb (length image) image_length long, sym is ∙ not-false r h))
+    pub status_passed : r ≡ true → image_status image ≡ Ok tt
+    unfolding image_status
+    status_passed h = rw (eq-eqb (length image) image_length long, sym is ∙ h)
 
   -- accepted is what the conditions say
-  pub accepted_status : AcceptedImage image → image_status image ≡ read.Accepted
-  accepted_status a = sym (status_passed a.length_is refl (ap not ((accepts-image image).1 a)))
+  pub accepted_status : AcceptedImage image → image_status image ≡ Ok tt
+  accepted_status a = status_passed a.length_is refl ((accepts-image image).1 a)
 
-  pub status_says : image_status image ≡ read.Accepted → AcceptedImage image
+  pub status_says : image_status image ≡ Ok tt → AcceptedImage image
   unfolding image_status
   status_says =
-      let then : ImageStatus = cond (not (accepts_image image)) (read.Refused NotAccepted) read.Accepted in
-      split (λ (b : Bool). cond (not b) (read.Refused WrongLength) then ≡ read.Accepted → AcceptedImage image) (eqb (length image) image_length)
-      (λ _. split (λ (b : Bool). cond (not b) (read.Refused NotAccepted) read.Accepted ≡ read.Accepted → AcceptedImage image) (accepts_image image)
+      let done : Result Unit HostError = Ok tt in
+      let then : Result Unit HostError = cond (not (accepts_image image)) (Err NotAccepted) (Ok tt) in
+      split (λ (b : Bool). cond (not b) (Err WrongLength) then ≡ Ok tt → AcceptedImage image) (eqb (length image) image_length)
+      (λ _. split (λ (b : Bool). cond (not b) (Err NotAccepted) (Ok tt) ≡ Ok tt → AcceptedImage image) (accepts_image image)
       (λ yes _. (accepts-image image).0 yes)
-      (λ _ e. let never : ◌≡◌ {A = ℕ} 0 1 = cc in absurd (omega arith)))
-      (λ _ e. let never : ◌≡◌ {A = ℕ} 0 1 = cc in absurd (omega arith))
+      (λ _ (e : Err NotAccepted ≡ done). cc))
+      (λ _ (e : Err WrongLength ≡ done). cc)

@@ -1,13 +1,13 @@
--- Bytes stored one behind the other in a buffer (`sets`): in two goes, the last one first, over a part of it, and read back.
+-- Bytes stored one behind the other in a buffer (`sets`): in two goes, through a part of it, over a part of it, and read back.
 -- Assumes nothing.
 use mathlib.Core.Path.{◌≡◌, refl, sym, ap, ◌∙◌}
-use mathlib.Core.List.{List, [], ◌∷◌, ◌++◌}
+use mathlib.Core.List.{List, [], ◌∷◌, ◌++◌, append_assoc}
 use Prim.Native.Nat.{ℕ, zero, suc, ◌+◌, ◌≤◌, ◌<◌}
 use native.Mathlib.Omega.{arith}
 use native.Mathlib.Nat.{add-zero, add-suc, suc-add, zero-add}
-use native.Mathlib.Numerals.{add-one}
 use lib.ListN.{length, get_or, take, drop, set, length-set, length-append}
-use lib.Seq.{sets, sets-eq, set-append_left, set_comm, set_out, take_at, take_all, drop_at, drop-cons, length-sets, get_or-take}
+use lib.Seq.{sets, sets-eq, set-append_left, set_out, take_at, take_all, drop_at, drop-drop, length-sets, get_or-take}
+use borrow.Rule.Slice.PartMut.{put_mid}
 
 -- first some, then the rest behind them
 pub sets_append : (o : List ℕ) (at : ℕ) (a b : List ℕ) → sets o at (a ++ b) ≡ sets (sets o at a) (at + length a) b
@@ -16,23 +16,10 @@ sets_append o at (x ∷ a) b =
     sets_append (set o at x) (suc at) a b
     ∙ ap (λ (n : ℕ). sets (sets (set o at x) (suc at) a) n b) (suc-add at (length a) ∙ sym (add-suc at (length a)))
 
--- a store behind the run's places
-set_sets_past : (o : List ℕ) (i at : ℕ) (x : ℕ) (a : List ℕ) → at + length a ≤ i → sets (set o i x) at a ≡ set (sets o at a) i x
-set_sets_past o i at x [] h = refl
-set_sets_past o i at x (y ∷ a) h =
-    let apart : i ≡ at → ⊥ = λ e. omega (arith, e, h) in
-    ap (λ (l : List ℕ). sets l (suc at) a) (set_comm o i at x y apart) ∙ set_sets_past (set o at y) i (suc at) x a (omega (arith, h))
-
--- the last byte first
-pub sets_snoc : (o : List ℕ) (at : ℕ) (a : List ℕ) (x : ℕ) → sets o at (a ++ (x ∷ [])) ≡ sets (set o (at + length a) x) at a
-sets_snoc o at a x = sets_append o at a (x ∷ []) ∙ sym (set_sets_past o (at + length a) at x a (omega arith))
-
--- a run stored byte by byte: one more byte, and what is left of it behind that one
-pub sets_on : (o : List ℕ) {now : List ℕ} (at k : ℕ) (a : List ℕ) → k < length a → now ≡ set o (at + k) (get_or a k 0)
-    → sets now (at + (k + 1)) (drop (k + 1) a) ≡ sets o (at + k) (drop k a)
-sets_on o at k a h e =
-    let next : at + (k + 1) ≡ suc (at + k) = omega arith in
-    (λ i. sets (e i) (next i) (drop (add-one k i) a)) ∙ ap (sets o (at + k)) (sym (drop-cons a k 0 h))
+-- bytes stored through a part that is as long as they are
+pub put_part : (o : List ℕ) (at : ℕ) (a : List ℕ) {n : ℕ} {now : List ℕ} → at + length a ≤ length o → n ≡ length a → now ≡ a →
+    put_mid at n o now ≡ sets o at a
+put_part o at a room long is = rw (is, long, drop-drop (length a) at o, sets-eq a o at room) (sym (append_assoc (take at o) a (drop (at + length a) o)))
 
 -- a store behind the first byte, behind the first bytes, and over the first bytes
 sets_cons : (x : ℕ) (o : List ℕ) (at : ℕ) (a : List ℕ) → sets (x ∷ o) (suc at) a ≡ x ∷ sets o at a

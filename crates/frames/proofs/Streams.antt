@@ -9,10 +9,11 @@ use borrow.Author.Tests.{leb-true, leb-false}
 use lib.Dec.{eqb, leb}
 use lib.ListN.{length, take, length-append, length-take}
 use lib.Seq.{take_all}
+use Rattle.std.specs.Prelude.{Option}
+use Rattle.rules.specs.declared.call.Call.{Call}
 use Rattle.records.proofs.Cases.{split, by_if}
 use Rattle.scheduler.specs.Scheduler.{abs}
 use Rattle.rules.specs.State.{State}
-use Rattle.frames.specs.declared.decode.CallOption.{CallOption}
 use Rattle.frames.specs.declared.stream.Fed.{Fed}
 use Rattle.frames.specs.declared.stream.Stream.{Stream}
 use Rattle.frames.specs.Hex.{to_hex}
@@ -49,11 +50,11 @@ call-held line =
 module _ (line : List ℕ) (s : State) where
   pub answer_held : answer_to (held_of line) s ≡ answer_to line s
   unfolding answer_to said_to
-  answer_held = ap (λ (c : CallOption). line_text (said c s).bytes) (call-held line)
+  answer_held = ap (λ (c : Option Call). line_text (said c s).bytes) (call-held line)
 
   pub state_held : state_after (held_of line) s ≡ state_after line s
   unfolding state_after said_to
-  state_held = ap (λ (c : CallOption). (said c s).state) (call-held line)
+  state_held = ap (λ (c : Option Call). (said c s).state) (call-held line)
 
 -- there is something of it where there is a line
 pub some-held : (line : List ℕ) → some (held_of line) ≡ some line

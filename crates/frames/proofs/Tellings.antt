@@ -6,13 +6,12 @@ use Prim.Native.Nat.{ℕ, ◌/◌, ◌≤◌}
 use native.Mathlib.Omega.{arith}
 use lib.ListN.{length, take}
 use lib.Seq.{sets}
+use Rattle.std.specs.Prelude.{Option, None, Some}
 use Rattle.rules.specs.declared.call.Call.{Call}
 use Rattle.scheduler.specs.declared.scheduler.QoSScheduler.{QoSScheduler}
 use Rattle.scheduler.specs.declared.scheduler.Reply.{Reply}
-use Rattle.scheduler.specs.Scheduler.{abs, Valid, Meets}
+use Rattle.scheduler.specs.Scheduler.{abs, Meets}
 use Rattle.rules.specs.State.{State}
-use Rattle.frames.specs.declared.decode.CallOption.{CallOption}
-use Rattle.frames.specs.declared.decode.CallOption.TheVariants.{None, Some}
 use Rattle.frames.specs.Answer.{answer_bytes}
 use Rattle.frames.specs.Frame.{frame_call}
 use Rattle.frames.specs.Hex.{is_hex, from_hex}
@@ -41,25 +40,23 @@ read_back line o e room =
 
 -- what a line makes of a state: these bytes, and the state that is next
 pub record Makes (line : List ℕ) (s : QoSScheduler) (bytes : List ℕ) (next : QoSScheduler) : Type 0 where
-  pub valid : Valid next
   pub state_is : abs next ≡ (said_to line (abs s)).state
   pub bytes_are : bytes ≡ (said_to line (abs s)).bytes
 
-said_as : (line : List ℕ) (s : State) {c : CallOption} → line_call line ≡ c → said_to line s ≡ said c s
+said_as : (line : List ℕ) (s : State) {c : Option Call} → line_call line ≡ c → said_to line s ≡ said c s
 unfolding said_to
 said_as line s e = ap (λ c. said c s) e
 
-pub makes_refusal : {line : List ℕ} {s : QoSScheduler} → line_call line ≡ None → Valid s → Makes line s no_frame s
-makes_refusal {line} {s} is valid =
+pub makes_refusal : {line : List ℕ} {s : QoSScheduler} → line_call line ≡ None → Makes line s no_frame s
+makes_refusal {line} {s} is =
     let told = sym (said_as line (abs s) is) in
-    record { valid = valid; state_is = ap (λ (r : Said). r.state) told; bytes_are = ap (λ (r : Said). r.bytes) told }
+    record { state_is = ap (λ (r : Said). r.state) told; bytes_are = ap (λ (r : Said). r.bytes) told }
 
 pub makes_reply : {line : List ℕ} {s : QoSScheduler} {call : Call} {r : Reply} → line_call line ≡ Some call → Meets call s r →
     Makes line s (answer_bytes r.answer) r.state
 makes_reply {line} {s} is meets =
     let told = sym (said_as line (abs s) is) in
     record {
-      valid = meets.valid;
       state_is = meets.state_is ∙ ap (λ (r : Said). r.state) told;
       bytes_are = ap answer_bytes meets.answer_is ∙ ap (λ (r : Said). r.bytes) told;
     }

@@ -1,5 +1,5 @@
 -- Where it comes from that a state's numbers fit the fields of an image: from the types of the scheduler's fields. What a function is told of a
--- parameter, or of what a call gave back, is `Is`: that the parameter is a value of its type. So every valid scheduler's state has an image.
+-- parameter, or of what a call gave back, is `Is`: that the parameter is a value of its type. So every scheduler's state has an image.
 -- Assumes nothing.
 use mathlib.Core.List.{List, [], ◌∷◌}
 use native.Mathlib.Omega.{arith}
@@ -14,7 +14,8 @@ use Rattle.records.proofs.Bands.{band_code-small}
 use Rattle.records.proofs.States.{state_code-small}
 use Rattle.scheduler.specs.declared.scheduler.QoSScheduler.{QoSScheduler}
 use Rattle.records.specs.Lists.{Each}
-use Rattle.scheduler.specs.Scheduler.{abs, Valid}
+use Rattle.rules.proofs.Accepts.{accepts_sound}
+use Rattle.scheduler.specs.Scheduler.{abs}
 use Rattle.scheduler.specs.contracts.scheduler.QoSScheduler as scheduler
 use Rattle.frames.specs.Bytes.{Fit}
 use Rattle.frames.specs.Image.{FitsImage, FitsRecord}
@@ -56,6 +57,7 @@ pub typed_fits : (s : QoSScheduler) (vs : List Val) → Is (row scheduler.the_ty
 unfolding abs
 typed_fits s vs (_, (_, (tasks, (_, (_, (micros, _)))))) = record { records = typed_records s.tasks tasks.0 tasks.1.1; micros = micros.1 }
 
--- a valid scheduler's state has an image
-pub valid-image : (s : QoSScheduler) (vs : List Val) → Is (row scheduler.the_type) s vs → Valid s → HasImage (abs s)
-valid-image s vs p v = has_image (abs s) v.accepted (typed_fits s vs p)
+-- so its state has an image
+pub typed_image : (s : QoSScheduler) (vs : List Val) → Is (row scheduler.the_type) s vs → HasImage (abs s)
+unfolding abs
+typed_image s vs p = has_image (abs s) (accepts_sound (abs s) s.accepted) (typed_fits s vs p)

@@ -2,42 +2,50 @@
 -- and the image from all of them. Assumes nothing.
 use mathlib.Core.Path.{◌≡◌, refl, sym, ap, ◌∙◌}
 use mathlib.Core.Bool.{Bool, cond}
-use mathlib.Core.List.{List, [], ◌∷◌, ◌++◌, map, flatten}
-use Prim.Native.Nat.{ℕ, zero, suc, ◌+◌, ◌*◌, ◌%◌, ◌≤◌, ◌<◌}
+use Rattle.std.specs.Prelude.{Ok, Err}
+use mathlib.Core.List.{List, [], ◌∷◌, ◌++◌, flatten}
+use Prim.Native.Nat.{ℕ, zero, suc, ◌+◌, ◌*◌, ◌≤◌, ◌<◌}
 use native.Mathlib.Nat.{zero-add}
 use native.Mathlib.Omega.{arith}
 use native.Mathlib.Numerals.{add-one}
-use borrow.Author.Tests.{eqb-true, eqb-false}
-use lib.Dec.{eqb}
-use lib.ListN.{length, get_or, drop, set, length-set, drop_of_length-le}
-use lib.Seq.{sets, length-sets, drop-cons, ext_get_or, get_or-set_same, get_or-set_other}
-use Rattle.records.specs.declared.band.QoSClass.{QoSClass}
-use Rattle.records.specs.declared.band.QoSClass.TheVariants.{UserInteractive, RealTimeIO, Background}
+use borrow.Author.Tests.{eqb-true, eqb-false, ltb-true, ltb-false, eq-eqb, ne_eqb}
+use lib.Dec.{eqb, ltb}
+use lib.ListN.{length, get_or, drop, set, length-set, length-append, drop_of_length-le}
+use lib.Seq.{sets, drop-cons, ext_get_or, get_or-set_same, get_or-set_other}
 use Rattle.records.specs.declared.task.TaskControlBlock.{TaskControlBlock}
-use Rattle.records.specs.Band.{band_code}
 use Rattle.records.specs.Task.{empty_record}
 use Rattle.records.proofs.Cases.{split}
 use Rattle.queue.specs.declared.BandQueue.{BandQueue}
 use Rattle.queue.specs.Entries.{places}
-use Rattle.queue.specs.Stored.{entries, WellFormed}
-use Rattle.scheduler.specs.declared.scheduler.QoSScheduler.{QoSScheduler}
-use Rattle.scheduler.specs.Scheduler.{queues_of, abs, Whole, Valid}
-use Rattle.rules.specs.State.{State, band_order, with_task}
+use Rattle.queue.specs.Stored.{entries}
+use Rattle.queue.proofs.Stored.{entries_short}
+use Rattle.scheduler.specs.Stored.{queues_of}
+use Rattle.rules.specs.Accepted.{Accepted}
+use Rattle.rules.specs.State.{State, task, with_task}
 use Rattle.rules.specs.Touched.{SameBut}
-use Rattle.scheduler.proofs.Arrays.{read-any, ring_of, entries_of}
+use Rattle.frames.specs.declared.refusal.HostError.TheVariants.{WrongLength}
 use Rattle.frames.specs.AcceptedImage.{AcceptedImage}
 use Rattle.frames.specs.Answer.{record_bytes}
 use Rattle.frames.specs.Bytes.{bytes_of}
 use Rattle.frames.specs.Image.{record_length, record_place, queue_length, queues_place, holders_place, micros_place, image_length}
 use Rattle.frames.specs.Image.{records_bytes, queue_bytes, queues_bytes, image_parts, image_of, state_at}
 use Rattle.frames.specs.Fits.{HasImage}
-use Rattle.frames.specs.Private.{Short}
+use Rattle.frames.specs.Private.{with_rest, put_slot}
 use Rattle.frames.specs.ReadWrite.{WritesImage}
 use Rattle.frames.proofs.Images.{length-records_bytes, length-tasks, length-queue_bytes, length_queues_bytes, length_image_of, writes_back}
 use Rattle.frames.proofs.Runs.{behind, alone, run_on}
 use Rattle.frames.proofs.Sizes.{length-record_bytes}
 use Rattle.frames.proofs.Stores.{sets_append, sets_behind, sets_over, sets_all}
 use Rattle.frames.proofs.Widths.{sets_part}
+
+-- the state with other records
+abbrev with_tasks : State → List TaskControlBlock → State
+with_tasks s ts = record { tasks = ts; queues = s.queues; holders = s.holders; micros = s.micros }
+
+set_past : {A : Type 0} (l : List A) (i : ℕ) (a : A) → length l ≤ i → set l i a ≡ l
+set_past [] i a past = refl
+set_past (b ∷ l) zero a past = absurd (omega arith)
+set_past {A} (b ∷ l) (suc i) a past = ap (λ (r : List A). b ∷ r) (set_past l i a (omega arith))
 
 -- ---- the records
 
@@ -81,20 +89,29 @@ record_stored s slot t h =
     ∙ sets_part (image_parts s) 0 (record_place slot) (record_bytes t) (omega arith) room
     ∙ ap (λ (records : List ℕ). flatten (set (image_parts s) 0 records)) (record_over s.tasks slot t h)
 
+-- a record is written over that of its slot; what is no slot of the table has none
+pub slot_put : (s : State) (tasks : List TaskControlBlock) (slot : ℕ) → length s.tasks ≡ 64 →
+    put_slot tasks slot (image_of s) ≡ image_of (with_task s slot (get_or tasks slot empty_record))
+slot_put s tasks slot size =
+    split (λ (b : Bool). cond b (sets (image_of s) (record_place slot) (record_bytes (get_or tasks slot empty_record))) (image_of s)
+    ≡ image_of (with_task s slot (get_or tasks slot empty_record))) (ltb slot 64)
+    (λ low. record_stored s slot (get_or tasks slot empty_record) (omega (arith, ltb-true slot 64 low, size)))
+    (λ past. ap (λ (ts : List TaskControlBlock). image_of (with_tasks s ts)) (sym (set_past s.tasks slot _ (omega (arith, ltb-false slot 64 past, size)))))
+
 -- a list from one that differs at two places only
-set_two : {A : Type 0} (d e : A) (l m : List A) (i j : ℕ) → length l ≡ length m → i < length l → j < length l →
-    ((k : ℕ) → k < length l → (k ≡ i → ⊥) → (k ≡ j → ⊥) → get_or m k d ≡ get_or l k d) → set (set l i (get_or m i e)) j (get_or m j e) ≡ m
-set_two d e l m i j long low-i low-j same =
-    let first = set l i (get_or m i e) in
-    let inside : length first ≡ length l = length-set l i (get_or m i e) in
-    ext_get_or d (set first j (get_or m j e)) m (length-set first j (get_or m j e) ∙ inside ∙ long) (λ k low.
-    let here : k < length l = omega (arith, low, inside, length-set first j (get_or m j e)) in
-    split (λ _. get_or (set first j (get_or m j e)) k d ≡ get_or m k d) (eqb k j)
-    (λ is. rw (eqb-true k j is) (get_or-set_same first j (get_or m j e) d (omega (arith, inside)) ∙ read-any m j e d (omega (arith, long))))
-    (λ not-j. get_or-set_other first j k (get_or m j e) d (eqb-false k j not-j)
+set_two : {A : Type 0} (d : A) (l m : List A) (i j : ℕ) → length l ≡ length m →
+    ((k : ℕ) → (k ≡ i → ⊥) → (k ≡ j → ⊥) → get_or m k d ≡ get_or l k d) → set (set l i (get_or m i d)) j (get_or m j d) ≡ m
+set_two d l m i j long same =
+    let first = set l i (get_or m i d) in
+    let inside : length first ≡ length l = length-set l i (get_or m i d) in
+    ext_get_or d (set first j (get_or m j d)) m (length-set first j (get_or m j d) ∙ inside ∙ long) (λ k low.
+    let here : k < length l = omega (arith, low, inside, length-set first j (get_or m j d)) in
+    split (λ _. get_or (set first j (get_or m j d)) k d ≡ get_or m k d) (eqb k j)
+    (λ is. let e : k ≡ j = eqb-true k j is in rw e (get_or-set_same first j (get_or m j d) d (omega (arith, inside))))
+    (λ not-j. get_or-set_other first j k (get_or m j d) d (eqb-false k j not-j)
     ∙ split (λ _. get_or first k d ≡ get_or m k d) (eqb k i)
-    (λ is. rw (eqb-true k i is) (get_or-set_same l i (get_or m i e) d low-i ∙ read-any m i e d (omega (arith, long))))
-    (λ not-i. get_or-set_other l i k (get_or m i e) d (eqb-false k i not-i) ∙ sym (same k here (eqb-false k i not-i) (eqb-false k j not-j)))))
+    (λ is. let e : k ≡ i = eqb-true k i is in rw e (get_or-set_same l i (get_or m i d) d (omega arith)))
+    (λ not-i. get_or-set_other l i k (get_or m i d) d (eqb-false k i not-i) ∙ sym (same k (eqb-false k i not-i) (eqb-false k j not-j)))))
 
 -- ---- the queues
 
@@ -111,73 +128,68 @@ queue_put es short o {o₁} at e₁ x e₂ p =
     run_on o at 1 (at + 1) (places es) e₁ x refl (e₂ ∙ ap (sets o₁ (at + 1)) p)
     ∙ ap (λ front. sets o at (front ++ places es)) (one_byte (length es) (omega (arith, short)))
 
-module _ (qs : List BandQueue) (w : Whole qs) (short : Short (queues_of qs)) where
-  -- each of the three may be stored
-  pub queue_fits_lem : (b : QoSClass) (d : BandQueue) → WellFormed (get_or qs (band_code b) d) × (length (entries (get_or qs (band_code b) d)) ≤ 64)
-  queue_fits_lem b d = (ring_of qs w b d, rw (entries_of qs w b d) (short b))
-
-  -- the first band's, the second's behind it, the third's behind both
-  pub queues_put : (o : List ℕ) {o₁ o₂ o₃ : List ℕ} (at : ℕ) (d : BandQueue) → o₁ ≡ sets o at (queue_bytes (entries (get_or qs 0 d)))
-      → o₂ ≡ sets o₁ (at + queue_length) (queue_bytes (entries (get_or qs 1 d))) → o₃ ≡ sets o₂ (at + 2 * queue_length) (queue_bytes (entries (get_or qs 2 d)))
-      → o₃ ≡ sets o at (queues_bytes (queues_of qs))
-  unfolding queues_bytes flatten
-  queues_put o {o₁} {o₂} at d e₁ e₂ e₃ =
-      let bytes : QoSClass → List ℕ = λ b. queue_bytes (entries (get_or qs (band_code b) d)) in
-      let long : (b : QoSClass) → length (bytes b) ≡ queue_length = λ b. length-queue_bytes (entries (get_or qs (band_code b) d)) (queue_fits_lem b d).1 in
-      behind o at (at + queue_length) (bytes UserInteractive) _ e₁ (omega (arith, long UserInteractive))
-      (behind o₁ (at + queue_length) (at + 2 * queue_length) (bytes RealTimeIO) _ e₂ (omega (arith, long RealTimeIO))
-      (alone o₂ (at + 2 * queue_length) (bytes Background) e₃))
-      ∙ (λ i. sets o at (flatten (map (λ b. queue_bytes (entries_of qs w b d i)) band_order)))
+-- the first band's, the second's behind it, the third's behind both
+pub queues_put : (qs : List BandQueue) → length qs ≡ 3 → (o : List ℕ) {o₁ o₂ o₃ : List ℕ} (at : ℕ) (d e f : BandQueue)
+    → o₁ ≡ sets o at (queue_bytes (entries (get_or qs 0 d))) → o₂ ≡ sets o₁ (at + queue_length) (queue_bytes (entries (get_or qs 1 e)))
+    → o₃ ≡ sets o₂ (at + 2 * queue_length) (queue_bytes (entries (get_or qs 2 f))) → o₃ ≡ sets o at (queues_bytes (queues_of qs))
+unfolding queues_bytes flatten queues_of
+queues_put [] l o at x y z e₁ e₂ e₃ = absurd (omega arith)
+queues_put (a ∷ []) l o at x y z e₁ e₂ e₃ = absurd (omega arith)
+queues_put (a ∷ b ∷ []) l o at x y z e₁ e₂ e₃ = absurd (omega arith)
+queues_put (a ∷ b ∷ c ∷ d ∷ more) l o at x y z e₁ e₂ e₃ = absurd (omega arith)
+queues_put (a ∷ b ∷ c ∷ []) l o {o₁} {o₂} at x y z e₁ e₂ e₃ =
+    behind o at (at + queue_length) (queue_bytes (entries a)) _ e₁ (omega (arith, length-queue_bytes (entries a) (entries_short a)))
+    (behind o₁ (at + queue_length) (at + 2 * queue_length) (queue_bytes (entries b)) _ e₂ (omega (arith, length-queue_bytes (entries b) (entries_short b)))
+    (alone o₂ (at + 2 * queue_length) (queue_bytes (entries c)) e₃))
 
 -- ---- the image
 
-module _ (s : QoSScheduler) (v : Valid s) where
-  pub queues_short : Short (queues_of s.queues)
-  unfolding abs
-  queues_short = v.accepted.lengths
-
+module _ (s : State) (ok : Accepted s) where
   -- records, queues, holders, microseconds, over a buffer that they fill
-  pub image_put : (o : List ℕ) {o₁ o₂ o₃ o₄ : List ℕ} → length o ≡ image_length → o₁ ≡ sets o 0 (records_bytes s.tasks)
-      → o₂ ≡ sets o₁ queues_place (queues_bytes (queues_of s.queues)) → o₃ ≡ sets o₂ holders_place s.current
-      → o₄ ≡ sets o₃ micros_place (bytes_of 8 s.system_ticks_us) → o₄ ≡ image_of (abs s)
-  unfolding image_of flatten abs
-  image_put o {o₁} {o₂} {o₃} long e₁ e₂ e₃ e₄ =
-      let records : length (records_bytes s.tasks) ≡ queues_place = length-records_bytes s.tasks ∙ omega (arith, v.accepted.slots) in
-      behind o 0 queues_place (records_bytes s.tasks) _ e₁ (omega (arith, records))
-      (behind o₁ queues_place holders_place (queues_bytes (queues_of s.queues)) _ e₂ (omega (arith, length_queues_bytes (queues_of s.queues) queues_short))
-      (behind o₂ holders_place micros_place s.current _ e₃ (omega (arith, v.accepted.cores))
-      (alone o₃ micros_place (bytes_of 8 s.system_ticks_us) e₄)))
-      ∙ sets_all o _ (length_image_of (abs s) v.accepted ∙ sym long)
+  pub image_put : (o : List ℕ) → length o ≡ image_length → with_rest s (sets o 0 (records_bytes s.tasks)) ≡ image_of s
+  unfolding image_of flatten
+  image_put o long =
+      let records : length (records_bytes s.tasks) ≡ queues_place = length-records_bytes s.tasks ∙ omega (arith, ok.slots) in
+      behind o 0 queues_place (records_bytes s.tasks) _ refl (omega (arith, records))
+      (behind _ queues_place holders_place (queues_bytes s.queues) _ refl (omega (arith, length_queues_bytes s.queues ok.lengths))
+      (behind _ holders_place micros_place s.holders _ refl (omega (arith, ok.cores))
+      (alone _ micros_place (bytes_of 8 s.micros) refl)))
+      ∙ sets_all o _ (length_image_of s ok ∙ sym long)
 
   -- the same over the image of a state with the same records but for those of two slots
-  pub image_over : (image : List ℕ) {o₁ o₂ o₃ o₄ o₅ : List ℕ} (first second : ℕ) (d : TaskControlBlock) → AcceptedImage image
-      → SameBut first second (state_at image) (abs s)
-      → o₁ ≡ sets image (record_place (first % 64)) (record_bytes (get_or s.tasks (first % 64) d))
-      → o₂ ≡ sets o₁ (record_place (second % 64)) (record_bytes (get_or s.tasks (second % 64) d))
-      → o₃ ≡ sets o₂ queues_place (queues_bytes (queues_of s.queues)) → o₄ ≡ sets o₃ holders_place s.current
-      → o₅ ≡ sets o₄ micros_place (bytes_of 8 s.system_ticks_us) → o₅ ≡ image_of (abs s)
-  unfolding image_of flatten abs
-  image_over image {o₁} {o₂} first second d a same e₁ e₂ =
+  pub image_over : (image : List ℕ) (first second : ℕ) → AcceptedImage image → SameBut first second (state_at image) s →
+      with_rest s (put_slot s.tasks second (put_slot s.tasks first image)) ≡ image_of s
+  unfolding image_of flatten
+  image_over image first second a same =
       let old = state_at image in
       let size : length old.tasks ≡ 64 = length-tasks image in
-      let one = first % 64 in
-      let other = second % 64 in
-      let t = get_or s.tasks one d in
-      let u = get_or s.tasks other d in
-      let first-is : o₁ ≡ image_of (with_task old one t) =
-      e₁ ∙ ap (λ (l : List ℕ). sets l (record_place one) (record_bytes t)) (sym (writes_back image a)) ∙ record_stored old one t (omega (arith, size)) in
-      let second_is : o₂ ≡ image_of (with_task (with_task old one t) other u) =
-      e₂ ∙ ap (λ (l : List ℕ). sets l (record_place other) (record_bytes u)) first-is
-      ∙ record_stored (with_task old one t) other u (omega (arith, size, length-set old.tasks one t)) in
-      let whole : set (set old.tasks one t) other u ≡ s.tasks =
-      set_two empty_record d old.tasks s.tasks one other (size ∙ sym v.accepted.slots) (omega (arith, size)) (omega (arith, size))
-      (λ k low not-one not-other. same k (λ e. not-one (omega (arith, e, low, size))) (λ e. not-other (omega (arith, e, low, size)))) in
-      let rest = flatten (drop 1 (image_parts old)) in
-      let all : o₂ ≡ records_bytes s.tasks ++ rest = second_is ∙ ap (λ (ts : List TaskControlBlock). records_bytes ts ++ rest) whole in
-      image_put o₂ (ap length e₂ ∙ length-sets o₁ _ (record_bytes u) ∙ ap length e₁ ∙ length-sets image _ (record_bytes t) ∙ a.length_is)
-      (sym (ap (λ (l : List ℕ). sets l 0 (records_bytes s.tasks)) all ∙ sets_over (records_bytes s.tasks) rest (records_bytes s.tasks) refl ∙ sym all))
+      let one : State = with_task old first (task s first) in
+      let both : State = with_task one second (task s second) in
+      let written : put_slot s.tasks second (put_slot s.tasks first image) ≡ image_of both =
+      ap (λ (l : List ℕ). put_slot s.tasks second (put_slot s.tasks first l)) (sym (writes_back image a))
+      ∙ ap (put_slot s.tasks second) (slot_put old s.tasks first size)
+      ∙ slot_put one s.tasks second (length-set old.tasks first (task s first) ∙ size) in
+      let whole : both ≡ with_tasks old s.tasks = ap (with_tasks old) (set_two empty_record old.tasks s.tasks first second (size ∙ sym ok.slots) same) in
+      let rest : List ℕ = flatten (drop 1 (image_parts old)) in
+      let now : List ℕ = records_bytes s.tasks ++ rest in
+      let long : length now ≡ image_length =
+      omega (
+        arith,
+        length-append (records_bytes s.tasks) rest,
+        length-append (records_bytes old.tasks) rest,
+        length-records_bytes s.tasks,
+        length-records_bytes old.tasks,
+        ap length (writes_back image a),
+        a.length_is,
+        size,
+        ok.slots,
+      ) in
+      ap (with_rest s) (written ∙ ap image_of whole ∙ sym (sets_over (records_bytes s.tasks) rest (records_bytes s.tasks) refl)) ∙ image_put now long
 
 -- what the writer promises, by whether the buffer has an image's length
-pub image-written : {s : State} → HasImage s → (before : List ℕ) {after : List ℕ} {r : Bool} → eqb (length before) image_length ≡ r
-    → after ≡ cond r (image_of s) before → WritesImage s before after r
-image-written has before e is = record { done_is = sym e; image_is = rw e is; has_image = has }
+pub image_written : {s : State} → HasImage s → (before : List ℕ) {after : List ℕ} → length before ≡ image_length → after ≡ image_of s →
+    WritesImage s before after (Ok tt)
+image_written has before long is = record { done_is = rw (eq-eqb (length before) image_length long); image_is = rw (eq-eqb (length before) image_length long) is; has_image = has }
+
+pub image_unwritten : {s : State} → HasImage s → (before : List ℕ) → (length before ≡ image_length → ⊥) → WritesImage s before before (Err WrongLength)
+image_unwritten has before other = record { done_is = rw (ne_eqb (length before) image_length other); image_is = rw (ne_eqb (length before) image_length other) refl; has_image = has }

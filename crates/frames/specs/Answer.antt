@@ -1,11 +1,8 @@
 -- Document 01, "Call frames": the bytes of an answer. `paper` lists its numbers; here each has its width.
-use Rattle.std.specs.Prelude.{List, [], ◌∷◌, ℕ, get_or}
+use Rattle.std.specs.Prelude.{List, [], ◌∷◌, ℕ, get_or, Option, None, Some}
+use Rattle.rules.specs.declared.answer.ContextSwitchPlan.{ContextSwitchPlan}
 use Rattle.records.specs.declared.task.TaskControlBlock.{TaskControlBlock}
 use Rattle.rules.specs.declared.answer.Answer.{Answer}
-use Rattle.rules.specs.declared.answer.PlanOption.{PlanOption}
-use Rattle.rules.specs.declared.answer.PlanOption.TheVariants as plan
-use Rattle.rules.specs.declared.answer.TaskOption.{TaskOption}
-use Rattle.rules.specs.declared.answer.TaskOption.TheVariants as task
 use Rattle.rules.specs.declared.answer.Value.{Value}
 use Rattle.rules.specs.declared.answer.Value.TheVariants as value
 use Rattle.rules.specs.Paper.{paper, record_numbers}
@@ -19,14 +16,14 @@ unfoldable pub record_bytes : TaskControlBlock → List ℕ
 record_bytes t = written record_widths (record_numbers t)
 
 -- "for plans 00, or 01, previous byte (ff none), target byte (ff idle), cr3 8 (0 if idle)"
-abbrev pub plan_widths : PlanOption → List ℕ
-plan_widths plan.None = 1 ∷ []
-plan_widths (plan.Some p) = 1 ∷ 1 ∷ 1 ∷ 8 ∷ []
+abbrev pub plan_widths : Option ContextSwitchPlan → List ℕ
+plan_widths None = 1 ∷ []
+plan_widths (Some p) = 1 ∷ 1 ∷ 1 ∷ 8 ∷ []
 
 -- "00, or 01 and the record, for 0d, 0e"
-abbrev pub task_widths : TaskOption → List ℕ
-task_widths task.None = 1 ∷ []
-task_widths (task.Some t) = 1 ∷ record_widths
+abbrev pub task_widths : Option TaskControlBlock → List ℕ
+task_widths None = 1 ∷ []
+task_widths (Some t) = 1 ∷ record_widths
 
 -- "nothing for 01 to 05; a slot or core byte [..] for 00, 06, 07, 0c, 10; for plans [..]; 00 or 01 for 0b; [..] for 0d, 0e; 8 bytes for 0f"
 abbrev pub value_widths : Value → List ℕ

@@ -1,13 +1,11 @@
 -- Document 01, "Call frames": which call a frame's bytes stand for, or none (refusal 9: "unknown call, wrong length, band above 2").
-use Rattle.std.specs.Prelude.{cond, List, [], ◌∷◌, ℕ, eqb, length, get_or}
-use Rattle.records.specs.declared.band.BandOption.{BandOption}
-use Rattle.records.specs.declared.band.BandOption.TheVariants as band
+use Rattle.std.specs.Prelude.{cond, List, [], ◌∷◌, ℕ, eqb, length, get_or, Option, None, Some}
+use Rattle.rules.specs.declared.call.Call.{Call}
+use Rattle.records.specs.declared.band.QoSClass.{QoSClass}
 use Rattle.records.specs.declared.ids.Slot.{Slot}
 use Rattle.records.specs.declared.ids.Tid.{Tid}
 use Rattle.records.specs.Band.{coded_band}
 use Rattle.rules.specs.declared.call.Call.TheVariants.{Create, Affinity, Terminate, Block, Wake, Enqueue, Schedule, Tick, Yield, Handoff, Plan, CanRunOnCore, TaskIndexForTid, Task, CurrentTaskOnCpu, SystemTicksUs, Holder}
-use Rattle.frames.specs.declared.decode.CallOption.{CallOption}
-use Rattle.frames.specs.declared.decode.CallOption.TheVariants.{None, Some}
 use Rattle.frames.specs.Bytes.{number_at, total}
 
 -- "The first byte is the call; slots and cores take 8 bytes, elapsed 4." The widths of what follows it, from 00 to 10.
@@ -56,12 +54,12 @@ abbrev pub tid_at : ℕ → List ℕ → Tid
 tid_at at frame = record { 0 = number_at at 4 frame }
 
 -- "00 create: tid 4, band 1, context 8, cr3 8, rsp0 8"
-abbrev pub create_in : BandOption → List ℕ → CallOption
-create_in band.None frame = None
-create_in (band.Some qos) frame = Some (Create (tid_at 1 frame) qos (number_at 6 8 frame) (number_at 14 8 frame) (number_at 22 8 frame))
+abbrev pub create_in : Option QoSClass → List ℕ → Option Call
+create_in None frame = None
+create_in (Some qos) frame = Some (Create (tid_at 1 frame) qos (number_at 6 8 frame) (number_at 14 8 frame) (number_at 22 8 frame))
 
 -- the calls that a frame could be, from 00 to 10, each argument behind the one before
-abbrev pub calls_in : List ℕ → List CallOption
+abbrev pub calls_in : List ℕ → List (Option Call)
 calls_in frame =
     create_in (coded_band (number_at 5 1 frame)) frame ∷
     Some (Affinity (slot_at 1 frame) (number_at 9 8 frame)) ∷
@@ -83,7 +81,7 @@ calls_in frame =
     []
 
 -- no bytes are no frame ("A blank line is refusal 9"); else the call's arguments have their length exactly, and the call is known
-unfoldable pub frame_call : List ℕ → CallOption
+unfoldable pub frame_call : List ℕ → Option Call
 frame_call [] = None
 frame_call (call ∷ arguments) =
     cond (eqb (length arguments) (arguments_length call))

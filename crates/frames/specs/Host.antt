@@ -1,17 +1,12 @@
 -- Document 01, "Call frames": "The host kernel, written in C, passes image, frame bytes and answer buffer." A new image, what a
 -- call makes of an image, and what a frame makes of an image and a buffer: the table of refusals in its order, on lists of bytes.
-use Rattle.std.specs.Prelude.{Bool, cond, not, ◌||◌, List, ℕ, ◌+◌, ltb, eqb, length}
+use Rattle.std.specs.Prelude.{Bool, cond, not, ◌||◌, List, ℕ, ◌+◌, ltb, eqb, length, Option, None, Some, Result, Ok, Err}
 use Rattle.std.proofs.lemmas.List.Edits.{sets}
+use Rattle.rules.specs.declared.answer.Answer.{Answer}
 use Rattle.rules.specs.declared.call.Call.{Call}
 use Rattle.rules.specs.Outcome.{Outcome}
 use Rattle.rules.specs.State.{new_state}
 use Rattle.rules.specs.Step.{step}
-use Rattle.frames.specs.declared.decode.CallOption.{CallOption}
-use Rattle.frames.specs.declared.decode.CallOption.TheVariants.{None, Some}
-use Rattle.frames.specs.declared.host.ImageAnswer.{ImageAnswer}
-use Rattle.frames.specs.declared.host.ImageAnswer.TheVariants as told
-use Rattle.frames.specs.declared.read.ImageStatus.{ImageStatus}
-use Rattle.frames.specs.declared.read.ImageStatus.TheVariants as read
 use Rattle.frames.specs.declared.refusal.HostError.{HostError}
 use Rattle.frames.specs.declared.refusal.HostError.TheVariants.{WrongLength, NotAccepted, NoFrame}
 use Rattle.frames.specs.AcceptedImage.{accepts_image}
@@ -30,6 +25,11 @@ host_number NoFrame = 9
 abbrev pub refusal_returned : HostError → ℕ
 refusal_returned e = 256 + host_number e
 
+-- "It gets the answer's length, or 256 plus refusal 7, 8 or 9"
+abbrev pub returned : Result ℕ HostError → ℕ
+returned (Ok n) = n
+returned (Err e) = refusal_returned e
+
 -- an "answer buffer under 51" is refused
 abbrev pub answer_room : ℕ
 answer_room = 51
@@ -38,16 +38,16 @@ answer_room = 51
 
 -- what it answers, and the image then
 pub record OnImage : Type 0 where
-  pub answer : ImageAnswer
+  pub answer : Result Answer HostError
   pub image : List ℕ
 
-abbrev pub on_image : ImageAnswer → List ℕ → OnImage
+abbrev pub on_image : Result Answer HostError → List ℕ → OnImage
 on_image answer image = record { answer = answer; image = image }
 
 -- "the image then holds the state after the call"; refused images stay as they are
-abbrev pub called_in : ImageStatus → Call → List ℕ → OnImage
-called_in (read.Refused e) call image = on_image (told.Refused e) image
-called_in read.Accepted call image = on_image (told.Answered (step call (state_at image)).answer) (image_of (step call (state_at image)).state)
+abbrev pub called_in : Result Unit HostError → Call → List ℕ → OnImage
+called_in (Err e) call image = on_image (Err e) image
+called_in (Ok _) call image = on_image (Ok (step call (state_at image)).answer) (image_of (step call (state_at image)).state)
 
 unfoldable pub call_on_image : Call → List ℕ → OnImage
 call_on_image call image = called_in (image_status image) call image
@@ -61,6 +61,11 @@ pub record FirstImage : Type 0 where
 
 abbrev pub first_image : ℕ → List ℕ → FirstImage
 first_image n image = record { returned = n; image = image }
+
+-- 0, or 256 plus refusal 7
+abbrev pub made : Result Unit HostError → ℕ
+made (Ok _) = 0
+made (Err e) = refusal_returned e
 
 -- the image of "New"; 7 "image not 3,275 bytes", which is left as it was
 unfoldable pub host_new : List ℕ → FirstImage
@@ -86,7 +91,7 @@ abbrev pub host_answered : Outcome → List ℕ → Hosted
 host_answered o answer = hosted (length (answer_bytes o.answer)) (image_of o.state) (sets answer 0 (answer_bytes o.answer))
 
 -- 9, or the call
-abbrev pub host_called : CallOption → List ℕ → List ℕ → Hosted
+abbrev pub host_called : Option Call → List ℕ → List ℕ → Hosted
 host_called None image answer = host_refused NoFrame image answer
 host_called (Some call) image answer = host_answered (step call (state_at image)) answer
 

@@ -2,12 +2,8 @@
 -- total, and which bytes are an image that is accepted is AcceptedImage.antt's matter. Both go by one list of parts: a part is a length in
 -- `part_lengths`, its bytes in `image_parts` and what they stand for in `state_at`.
 use mathlib.Core.List.{List, [], ◌∷◌, map, flatten}
-use Rattle.std.specs.Prelude.{ℕ, zero, suc, ◌+◌, ◌*◌, ◌<◌, ◌^◌, eqb, length, get_or, take, drop}
-use Rattle.records.specs.declared.band.BandOption.{BandOption}
-use Rattle.records.specs.declared.band.BandOption.TheVariants as band
+use Rattle.std.specs.Prelude.{ℕ, zero, suc, ◌+◌, ◌*◌, ◌<◌, ◌^◌, eqb, length, get_or, take, drop, Option, None, Some}
 use Rattle.records.specs.declared.band.QoSClass.{QoSClass}
-use Rattle.records.specs.declared.state.StateOption.{StateOption}
-use Rattle.records.specs.declared.state.StateOption.TheVariants as state
 use Rattle.records.specs.declared.state.ThreadState.{ThreadState}
 use Rattle.records.specs.declared.task.TaskControlBlock.{TaskControlBlock}
 use Rattle.records.specs.Band.{band_code, coded_band}
@@ -31,16 +27,16 @@ unfoldable pub records_bytes : List TaskControlBlock → List ℕ
 records_bytes tasks = flatten (map record_bytes tasks)
 
 -- a band or state by its code; a byte that is no code reads as the empty record's
-abbrev pub or_empty_band : BandOption → QoSClass
-or_empty_band band.None = empty_record.qos
-or_empty_band (band.Some q) = q
+abbrev pub or_empty_band : Option QoSClass → QoSClass
+or_empty_band None = empty_record.qos
+or_empty_band (Some q) = q
 
 abbrev pub band_of : ℕ → QoSClass
 band_of code = or_empty_band (coded_band code)
 
-abbrev pub or_empty_state : StateOption → ThreadState
-or_empty_state state.None = empty_record.state
-or_empty_state (state.Some s) = s
+abbrev pub or_empty_state : Option ThreadState → ThreadState
+or_empty_state None = empty_record.state
+or_empty_state (Some s) = s
 
 abbrev pub state_of : ℕ → ThreadState
 state_of code = or_empty_state (coded_state code)

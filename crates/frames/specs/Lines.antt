@@ -1,9 +1,8 @@
 -- Document 01, "Call frames": text of lines, and the text of its answers.
-use Rattle.std.specs.Prelude.{Bool, true, false, cond, List, [], ◌∷◌, ◌++◌, ℕ, eqb}
+use Rattle.std.specs.Prelude.{Bool, true, false, cond, List, [], ◌∷◌, ◌++◌, ℕ, eqb, Option, None, Some}
+use Rattle.rules.specs.declared.call.Call.{Call}
 use Rattle.rules.specs.State.{State, none_byte}
 use Rattle.rules.specs.Step.{step}
-use Rattle.frames.specs.declared.decode.CallOption.{CallOption}
-use Rattle.frames.specs.declared.decode.CallOption.TheVariants.{None, Some}
 use Rattle.frames.specs.Answer.{answer_bytes}
 use Rattle.frames.specs.Frame.{frame_call}
 use Rattle.frames.specs.Hex.{is_hex, from_hex, to_hex}
@@ -19,7 +18,7 @@ line_of [] = []
 line_of (b ∷ text) = cond (eqb b newline) [] (b ∷ line_of text)
 
 -- the call that a line stands for, or none: "bad digit, unknown call, wrong length, band above 2"
-unfoldable pub line_call : List ℕ → CallOption
+unfoldable pub line_call : List ℕ → Option Call
 line_call line = cond (is_hex line) (frame_call (from_hex line)) None
 
 -- what a frame makes of a state: an answer's bytes, and a state
@@ -33,7 +32,7 @@ no_frame = 9 ∷ none_byte ∷ none_byte ∷ []
 
 -- A frame that is refused: 9, "bad digit, unknown call, wrong length, band above 2", and "pick slot and pick band (ff ff for none)". "Refused: no
 -- value." "A refusal changes no state."
-abbrev pub said : CallOption → State → Said
+abbrev pub said : Option Call → State → Said
 said None s = record { bytes = no_frame; state = s }
 said (Some call) s = record { bytes = answer_bytes (step call s).answer; state = (step call s).state }
 

@@ -1,5 +1,5 @@
 -- What the private functions presume and promise, and what their proofs cite of it. Nobody above this crate has to read it.
-use Rattle.std.specs.Prelude.{◌≡◌, Bool, cond, List, [], ◌++◌, ℕ, ◌+◌, ◌-◌, ◌≤◌, ◌<◌, ◌^◌, eqb, leb, length, get_or, take}
+use Rattle.std.specs.Prelude.{◌≡◌, Bool, cond, List, [], ◌++◌, ℕ, ◌+◌, ◌-◌, ◌≤◌, ◌<◌, ◌^◌, eqb, leb, length, get_or, Option, None, Some, Result, Ok, Err, MatchResult, ltb}
 use Rattle.records.specs.declared.band.QoSClass.{QoSClass}
 use Rattle.records.specs.declared.task.TaskControlBlock.{TaskControlBlock}
 use Rattle.records.specs.Lists.{every, count}
@@ -7,21 +7,21 @@ use Rattle.rules.specs.declared.answer.Answer.{Answer}
 use Rattle.rules.specs.declared.call.Call.{Call}
 use Rattle.rules.specs.declared.answer.Value.{Value}
 use Rattle.rules.specs.Paper.{record_numbers, value_numbers}
-use Rattle.rules.specs.State.{Queues, of_band}
+use Rattle.rules.specs.State.{State}
 use Rattle.rules.specs.Step.{step}
-use Rattle.frames.specs.declared.read.ImageStatus.{ImageStatus}
-use Rattle.frames.specs.declared.read.ImageStatus.TheVariants as read
 use Rattle.frames.specs.declared.refusal.HostError.{HostError}
-use Rattle.frames.specs.declared.refusal.HostError.TheVariants.{NoFrame}
-use Rattle.frames.specs.Image.{image_of, state_at, queue_at, length_byte}
+use Rattle.frames.specs.Image.{image_of, state_at, queue_at, length_byte, queues_place, holders_place, micros_place, record_place, queues_bytes}
 use Rattle.frames.specs.declared.stream.Fed.{Fed}
 use Rattle.frames.specs.declared.stream.Stream.{Stream}
-use Rattle.frames.specs.Answer.{record_widths, value_widths}
-use Rattle.frames.specs.Bytes.{part, number_at, written, Puts}
+use Rattle.frames.specs.Answer.{record_widths, record_bytes, value_widths}
+use Rattle.std.proofs.lemmas.List.Edits.{sets}
+use Rattle.std.specs.Borrow.{Bor}
+use Rattle.records.specs.Task.{empty_record}
+use Rattle.frames.specs.Bytes.{part, number_at, bytes_of, written}
 use Rattle.frames.specs.Hex.{digit_value}
 use Rattle.frames.specs.Lines.{line_text}
 use Rattle.frames.specs.ReadWrite.{image_status}
-use Rattle.frames.specs.Stream.{held_of, held_in, ValidStream, held_most}
+use Rattle.frames.specs.Stream.{held_of, held_in}
 
 -- ---- numbers and digits
 
@@ -44,11 +44,21 @@ record_part from n t = written (part from n record_widths) (part from n (record_
 unfoldable pub value_bytes : Value → List ℕ
 value_bytes v = written (value_widths v) (value_numbers v)
 
+-- ---- reading an image
+
+-- the image's bytes where they are accepted, or its refusal
+abbrev pub FindsImage : List ℕ → Result (Bor (List ℕ)) HostError → Type 0
+FindsImage image r = MatchResult r (λ found. (found.now ≡ image) × (image_status image ≡ Ok tt)) (λ e. image_status image ≡ Err e)
+
 -- ---- writing an image
 
--- queues of at most 64 entries, as an accepted state has
-abbrev pub Short : Queues → Type 0
-Short q = (band : QoSClass) → length (of_band q band) ≤ 64
+-- the image with all that is not a record written over it
+abbrev pub with_rest : State → List ℕ → List ℕ
+with_rest s image = sets (sets (sets image queues_place (queues_bytes s.queues)) holders_place s.holders) micros_place (bytes_of 8 s.micros)
+
+-- a slot's record is written, if it is a slot of the table
+abbrev pub put_slot : List TaskControlBlock → ℕ → List ℕ → List ℕ
+put_slot tasks slot image = cond (ltb slot 64) (sets image (record_place slot) (record_bytes (get_or tasks slot empty_record))) image
 
 -- ---- unused bytes
 
@@ -73,14 +83,6 @@ pub record Counted (es before after : List ℕ) : Type 0 where
 
 -- ---- a call on an image
 
--- the refusal where there is no call: the image's own comes first
-abbrev pub refusal_in : ImageStatus → HostError
-refusal_in (read.Refused e) = e
-refusal_in read.Accepted = NoFrame
-
-abbrev pub refusal_of : List ℕ → HostError
-refusal_of image = refusal_in (image_status image)
-
 -- a call on an accepted image: its answer, and the image of the state after it
 pub record CalledOn (call : Call) (before after : List ℕ) (answer : Answer) : Type 0 where
   pub answer_is : answer ≡ (step call (state_at before)).answer
@@ -92,19 +94,17 @@ pub record CalledOn (call : Call) (before after : List ℕ) (answer : Answer) : 
 abbrev pub fitting : ℕ → List ℕ → List ℕ
 fitting room line = cond (leb (length line) room) line []
 
--- an answer as a line of text from a place on, if it has room there
-abbrev pub PutsLine : List ℕ → ℕ → List ℕ → List ℕ → ℕ → Type 0
-PutsLine bytes at before after r = Puts (fitting (length before - at) (line_text bytes)) at before after r
+-- how many bytes a line has, if it has room
+abbrev pub size_in : ℕ → List ℕ → Option ℕ
+size_in room line = cond (leb (length line) room) (Some (length line)) None
 
--- so many bytes are held of a line, and now more of it
-pub record HoldsLine (len : ℕ) (line before after : List ℕ) (r : ℕ) : Type 0 where
-  pub within : r ≤ held_most
-  pub places : length after ≡ held_most
-  pub held_is : take r after ≡ held_of (take len before ++ line)
+-- an answer as a line of text from a place on, if it has room there
+pub record PutsLine (bytes : List ℕ) (at : ℕ) (before after : List ℕ) (r : Option ℕ) : Type 0 where
+  pub buffer_is : after ≡ sets before at (fitting (length before - at) (line_text bytes))
+  pub size_is : r ≡ size_in (length before - at) (line_text bytes)
 
 -- the stream with more of its line held, and the other parts as they are given
 pub record Stops (stream : Stream) (line : List ℕ) (used written : ℕ) (full : Bool) (r : Fed) : Type 0 where
-  pub valid : ValidStream r.stream
   pub state_is : r.stream.state ≡ stream.state
   pub held_is : held_in r.stream ≡ held_of (held_in stream ++ line)
   pub used_is : r.used ≡ used

@@ -3,8 +3,9 @@
 use Rattle.std.specs.Prelude.{Bool, true, false, cond, ◌&&◌, List, [], ◌∷◌, ◌++◌, ◌≡◌, ℕ, suc, ◌+◌, ◌-◌, ◌≤◌, eqb, leb, length, take}
 use Rattle.std.proofs.lemmas.List.Edits.{sets}
 use Rattle.scheduler.specs.declared.scheduler.QoSScheduler.{QoSScheduler}
-use Rattle.scheduler.specs.Scheduler.{abs, Valid}
+use Rattle.scheduler.specs.Scheduler.{abs}
 use Rattle.rules.specs.State.{State}
+use Rattle.frames.specs.declared.held.Held.{Held}
 use Rattle.frames.specs.declared.stream.Fed.{Fed}
 use Rattle.frames.specs.declared.stream.Stream.{Stream}
 use Rattle.frames.specs.Lines.{newline, some, answer_to, state_after}
@@ -64,19 +65,15 @@ fed last room s held (b ∷ block) =
 
 -- ---- what the functions promise
 
--- what a stream holds of a line that is not answered yet
-unfoldable pub held_in : Stream → List ℕ
-held_in stream = take stream.len stream.held
+-- what is held of a line that is not answered yet, and by a stream
+unfoldable pub held_bytes : Held → List ℕ
+held_bytes held = take held.len held.bytes
 
--- what is presumed of a stream: `new` and every feeding ensure it
-pub record ValidStream (stream : Stream) : Type 0 where
-  pub valid : Valid stream.state
-  pub places : length stream.held ≡ held_most
-  pub within : stream.len ≤ held_most
+abbrev pub held_in : Stream → List ℕ
+held_in stream = held_bytes stream.held
 
 -- a stream over a scheduler, at the start of a line
 pub record Begins (s : QoSScheduler) (stream : Stream) : Type 0 where
-  pub valid : ValidStream stream
   pub state_is : stream.state ≡ s
   pub held_is : held_in stream ≡ []
 
@@ -87,7 +84,6 @@ fed_by last stream block room = fed last room (abs stream.state) (held_in stream
 -- A block fed to a stream: what is reached stands in the stream, its text at the front of the buffer, and behind that the buffer is as it was.
 -- `written_in` follows from the other fields and stands there for callers.
 pub record Feeds (last : Bool) (stream : Stream) (block before after : List ℕ) (r : Fed) : Type 0 where
-  pub valid : ValidStream r.stream
   pub state_is : abs r.stream.state ≡ (fed_by last stream block (length before)).state
   pub held_is : held_in r.stream ≡ (fed_by last stream block (length before)).held
   pub used_is : r.used ≡ (fed_by last stream block (length before)).used

@@ -3,13 +3,12 @@ ghost use Rattle.std.specs.Prelude.{◌≡◌, ◌&&◌, ◌≤◌, ◌<◌, len
 ghost use Rattle.records.specs.Lists.{every, every_below};
 ghost use Rattle.rules.specs.Accepted.{ready_of, once_if_ready, stands_once};
 ghost use Rattle.rules.specs.State.{band_order, task, queue};
-ghost use Rattle.frames.specs.Image.{image_length, queue_at, length_byte, state_at};
+ghost use Rattle.frames.specs.Image.{queue_at, length_byte, state_at};
 ghost use Rattle.frames.specs.AcceptedImage.{accepts_image, slot_fits, band_fits, core_fits};
 ghost use Rattle.frames.specs.Private.{all_zero, LengthsFit, AtMost, Counted};
 
-use crate::bytes::wide;
 use crate::fields::{band_in, is_ready, may_hold, record_fits};
-use crate::layout::{HOLDERS_AT, IMAGE_BYTES};
+use crate::layout::{HOLDERS_AT, IMAGE_BYTES, Image};
 use crate::parts::{length_byte, queue_at, record_at, slot_byte};
 use records::{MAX_CPUS, MAX_TASKS, QoSClass};
 use scheduler::NO_HOLDER;
@@ -19,67 +18,53 @@ use scheduler::NO_HOLDER;
 pub fn accepts_image(image: &[u8]) -> bool
     ensures { result ≡ accepts_image image.now }
 {
-    if image.len() != IMAGE_BYTES {
-        return false;
-    }
-    if !bands_fit(image) {
-        return false;
-    }
-    if !slots_fit(image) {
-        return false;
-    }
-    cores_fit(image)
+    image.as_array::<IMAGE_BYTES>().is_some_and(accepts)
+}
+
+// The same of an image's length of bytes.
+pub(crate) fn accepts(image: &Image) -> bool
+    ensures { result ≡ accepts_image image.now }
+{
+    bands_fit(image) && slots_fit(image) && cores_fit(image)
 }
 
 // ---- the queues
 
 // Whether every band's queue fits.
-fn bands_fit(image: &[u8]) -> bool
-    requires { length image.now ≡ image_length }
+fn bands_fit(image: &Image) -> bool
     ensures { result ≡ every (band_fits image.now) band_order }
 {
-    if !band_fits(image, QoSClass::UserInteractive) {
-        return false;
-    }
-    if !band_fits(image, QoSClass::RealTimeIO) {
-        return false;
-    }
-    band_fits(image, QoSClass::Background)
+    band_fits(image, QoSClass::UserInteractive)
+        && band_fits(image, QoSClass::RealTimeIO)
+        && band_fits(image, QoSClass::Background)
 }
 
 // Whether a queue has at most 64 entries, each is a Ready slot of the band, and the places behind them are unused and 0.
-fn band_fits(image: &[u8], band: QoSClass) -> bool
-    requires { length image.now ≡ image_length }
+fn band_fits(image: &Image, band: QoSClass) -> bool
     ensures { result ≡ band_fits image.now band }
 {
     let len = length_byte(image, band);
     if len > MAX_TASKS {
         return false;
     }
-    let mut place = 0;
-    while place < len {
+    for place in 0..len {
         if !is_waiting(image, band, slot_byte(image, band, place)) {
             return false;
         }
-        place += 1;
     }
     let at = queue_at(band) + 1;
-    all_zero(&image[at + place..at + MAX_TASKS])
+    all_zero(&image[at + len..at + MAX_TASKS])
 }
 
 // Whether a number is a Ready slot of the band.
-fn is_waiting(image: &[u8], band: QoSClass, slot: usize) -> bool
-    requires { length image.now ≡ image_length }
+fn is_waiting(image: &Image, band: QoSClass, slot: usize) -> bool
     ensures { result ≡ ready_of band (task (state_at image.now) slot) }
 {
     if slot >= MAX_TASKS {
         return false;
     }
     let record = record_at(image, slot);
-    if !is_ready(record) {
-        return false;
-    }
-    band_in(record).code() == band.code()
+    is_ready(record) && band_in(record) == band
 }
 
 // Whether every byte is 0: by their sum, with no way out before the end, so that many bytes are added at a time.
@@ -87,12 +72,7 @@ fn all_zero(bytes: &[u8]) -> bool
     requires { length bytes.now ≤ 64 }
     ensures { result ≡ all_zero bytes.now }
 {
-    let mut sum = 0;
-    let mut k = 0;
-    while k < bytes.len() {
-        sum += wide(bytes[k]);
-        k += 1;
-    }
+    let sum: u64 = bytes.iter().map(|byte| u64::from(*byte)).sum();
     sum == 0
 }
 
@@ -100,40 +80,30 @@ fn all_zero(bytes: &[u8]) -> bool
 
 // Whether every slot's record fits, and every Ready slot stands in the queues once. Each slot's entries are counted first, in one
 // pass over the queues; then both are asked of each slot in turn, so that the records are gone over once and not twice.
-fn slots_fit(image: &[u8]) -> bool
-    requires image_len { length image.now ≡ image_length }
-    requires lengths_fit { LengthsFit image.now }
+fn slots_fit(image: &Image) -> bool
+    requires { LengthsFit image.now }
     ensures { result ≡ (every_below 64 (slot_fits image.now) && every_below 64 (stands_once (state_at image.now))) }
 {
     let none = [0u8; MAX_TASKS];
     let first = counted(image, QoSClass::UserInteractive, none);
     let second = counted(image, QoSClass::RealTimeIO, first);
     let counts = counted(image, QoSClass::Background, second);
-    let mut slot = 0;
-    while slot < MAX_TASKS {
-        if !slot_fits(image, slot) {
+    for slot in 0..MAX_TASKS {
+        if !slot_fits(image, slot) || !stands_once(image, slot, counts[slot]) {
             return false;
         }
-        if !stands_once(image, slot, counts[slot]) {
-            return false;
-        }
-        slot += 1;
     }
     true
 }
 
 // The counts, and one more for each entry of the band's queue. At most two queues of 64 entries were counted before.
-fn counted(image: &[u8], band: QoSClass, mut counts: [u8; MAX_TASKS]) -> [u8; MAX_TASKS]
-    requires image_len { length image.now ≡ image_length }
+fn counted(image: &Image, band: QoSClass, mut counts: [u8; MAX_TASKS]) -> [u8; MAX_TASKS]
     requires image_bound { length_byte (queue_at band image.now) ≤ 64 }
     requires at_most { AtMost 128 counts }
     ensures { Counted (queue (state_at image.now) band) counts result }
 {
-    let len = length_byte(image, band);
-    let mut place = 0;
-    while place < len {
+    for place in 0..length_byte(image, band) {
         let slot = slot_byte(image, band, place);
-        place += 1;
         if slot < MAX_TASKS {
             counts[slot] += 1;
         }
@@ -142,56 +112,44 @@ fn counted(image: &[u8], band: QoSClass, mut counts: [u8; MAX_TASKS]) -> [u8; MA
 }
 
 // Whether a slot's record fits.
-fn slot_fits(image: &[u8], slot: usize) -> bool
-    requires image_len { length image.now ≡ image_length }
-    requires slot_bound { slot < 64 }
+fn slot_fits(image: &Image, slot: usize) -> bool
+    requires { slot < 64 }
     ensures { result ≡ slot_fits image.now slot }
 {
     record_fits(record_at(image, slot))
 }
 
 // Whether a slot that stands in the queues so often is not Ready or stands there once.
-fn stands_once(image: &[u8], slot: usize, count: u8) -> bool
-    requires image_len { length image.now ≡ image_length }
-    requires slot_bound { slot < 64 }
+fn stands_once(image: &Image, slot: usize, count: u8) -> bool
+    requires { slot < 64 }
     ensures { result ≡ once_if_ready (task (state_at image.now) slot) count }
 {
-    if !is_ready(record_at(image, slot)) {
-        return true;
-    }
-    count == 1
+    !is_ready(record_at(image, slot)) || count == 1
 }
 
 // ---- the holders
 
 // Whether every core's holder fits.
-fn cores_fit(image: &[u8]) -> bool
-    requires { length image.now ≡ image_length }
+fn cores_fit(image: &Image) -> bool
     ensures { result ≡ every_below 64 (core_fits image.now) }
 {
-    let mut core = 0;
-    while core < MAX_CPUS {
+    for core in 0..MAX_CPUS {
         if !core_fits(image, core) {
             return false;
         }
-        core += 1;
     }
     true
 }
 
 // Whether a core's holder is none, or a slot in use whose budget is its slice.
-fn core_fits(image: &[u8], core: usize) -> bool
-    requires image_len { length image.now ≡ image_length }
-    requires core_bound { core < 64 }
+fn core_fits(image: &Image, core: usize) -> bool
+    requires { core < 64 }
     ensures { result ≡ core_fits image.now core }
 {
     let holder = image[HOLDERS_AT + core];
     if holder == NO_HOLDER {
         return true;
     }
-    let slot = holder as usize;
-    if slot >= MAX_TASKS {
-        return false;
-    }
-    may_hold(record_at(image, slot))
+    let slot = usize::from(holder);
+    slot < MAX_TASKS && may_hold(record_at(image, slot))
 }

@@ -13,61 +13,33 @@ pub(crate) fn number(bytes: &[u8], at: usize, width: usize) -> u64
     ensures { IsNumber at width bytes.now result }
 {
     if at + width <= bytes.len() {
-        return whole_number(bytes, at, width);
+        return whole_number(&bytes[at..at + width]);
     }
     if bytes.len() <= at {
         return 0;
     }
-    whole_number(bytes, at, bytes.len() - at)
+    whole_number(&bytes[at..])
 }
 
-// The number in `width` bytes from `at` on, which are all there.
-fn whole_number(bytes: &[u8], at: usize, width: usize) -> u64
-    requires in_bounds { at + width ≤ length bytes.now }
-    requires width_bound { width ≤ 8 }
-    ensures { IsNumber at width bytes.now result }
+// The number that these bytes are.
+fn whole_number(bytes: &[u8]) -> u64
+    requires { length bytes.now ≤ 8 }
+    ensures { IsNumber 0 (length bytes.now) bytes.now result }
 {
     let mut read = 0;
-    let mut k = 0;
-    while k < width {
-        read = wide(bytes[at + k]) + read * 256;
-        k += 1;
+    for byte in bytes {
+        read = u64::from(*byte) + read * 256;
     }
     read
 }
 
 // The number stored in `width` bytes from `at` on. A byte that has no place in the slice is not stored.
 pub(crate) fn put_number(bytes: &mut [u8], at: usize, width: usize, number: u64)
-    requires { at + width < 2 ^ 64 }
+    requires end_bound { at + width < 2 ^ 64 }
+    requires width_bound { width ≤ 8 }
     ensures { bytes.new ≡ sets bytes.old at (bytes_of width number) }
 {
-    if bytes.len() < at + width {
-        put_number_partly(bytes, at, width, number);
-        return;
-    }
-    let mut left = number;
-    let mut k = width;
-    while 0 < k {
-        k -= 1;
-        bytes[at + k] = (left % 256) as u8;
-        left /= 256;
-    }
-}
-
-// The same, where some bytes may have no place: each is asked.
-fn put_number_partly(bytes: &mut [u8], at: usize, width: usize, number: u64)
-    requires { at + width < 2 ^ 64 }
-    ensures { bytes.new ≡ sets bytes.old at (bytes_of width number) }
-{
-    let mut left = number;
-    let mut k = width;
-    while 0 < k {
-        k -= 1;
-        if at + k < bytes.len() {
-            bytes[at + k] = (left % 256) as u8;
-        }
-        left /= 256;
-    }
+    put_bytes(&number.to_be_bytes()[8 - width..], bytes, at);
 }
 
 // The bytes stored from `at` on. A byte that has no place in the slice is not stored.
@@ -80,8 +52,7 @@ pub(crate) fn put_bytes(bytes: &[u8], out: &mut [u8], at: usize)
         return;
     }
     if at < out.len() {
-        let room = out.len() - at;
-        put_all(&bytes[..room], out, at);
+        put_all(&bytes[..out.len() - at], out, at);
     }
 }
 
@@ -90,16 +61,5 @@ pub(crate) fn put_all(bytes: &[u8], out: &mut [u8], at: usize)
     requires { at + length bytes.now ≤ length out.old }
     ensures { out.new ≡ sets out.old at bytes.now }
 {
-    let mut k = 0;
-    while k < bytes.len() {
-        out[at + k] = bytes[k];
-        k += 1;
-    }
-}
-
-// A byte as a number of 64 bits.
-pub(crate) fn wide(byte: u8) -> u64
-    ensures { (result ≡ byte) × (result < 256) }
-{
-    byte as u64
+    out[at..at + bytes.len()].copy_from_slice(bytes);
 }

@@ -1,91 +1,73 @@
 // Frames: which call a frame's bytes stand for.
-ghost use Rattle.std.specs.Prelude.{◌≡◌, ◌+◌, ◌^◌, ◌<◌, get_or};
+ghost use Rattle.std.specs.Prelude.{◌≡◌, ◌+◌, ◌^◌, ◌<◌, get_or, None};
 ghost use Rattle.frames.specs.Frame.{frame_call, calls_in, create_in, slot_at};
 ghost use Rattle.frames.specs.Bytes.{number_at};
 ghost use Rattle.records.specs.Band.{coded_band};
 
 use crate::bytes::number;
-use records::{BandOption, QoSClass, Slot, Tid};
+use records::{QoSClass, Slot, Tid};
 use scheduler::Call;
 
-// How many calls have frames, and the length of each one's frame, from 00 to 10.
-const CALLS: usize = 17;
+// The length of each call's frame, from 00 to 10.
+const FRAME_LENGTHS: [usize; 17] = [30, 17, 9, 9, 9, 9, 9, 13, 9, 9, 13, 17, 5, 9, 9, 1, 9];
 
-const FRAME_LENGTHS: [usize; CALLS] = [30, 17, 9, 9, 9, 9, 9, 13, 9, 9, 13, 17, 5, 9, 9, 1, 9];
-
-// What a frame stands for.
-#[derive(Clone, Copy)]
-pub enum CallOption {
-    // Nothing: refusal 9, for a bad digit, an unknown call, a wrong length or a band above 2.
-    None,
-    // The call, with its arguments.
-    Some(Call),
-}
-
-// The call of a frame of raw bytes, of any length and contents.
-pub fn read_frame(frame: &[u8]) -> CallOption
+// The call of a frame of raw bytes, of any length and contents. None is refusal 9: for a bad digit, an unknown call, a wrong
+// length or a band above 2.
+pub fn read_frame(frame: &[u8]) -> Option<Call>
     ensures { result ≡ frame_call frame.now }
 {
-    if frame.len() == 0 {
-        return CallOption::None;
-    }
-    let call = frame[0];
-    let place = call as usize;
-    if CALLS <= place {
-        return CallOption::None;
-    }
-    if frame.len() != FRAME_LENGTHS[place] {
-        return CallOption::None;
+    let call = *frame.first()?;
+    let length = *FRAME_LENGTHS.get(usize::from(call))?;
+    if frame.len() != length {
+        return None;
     }
     call_in(frame, call)
 }
 
 // The arguments of a call's frame, read as that call.
-fn call_in(frame: &[u8], call: u8) -> CallOption
-    ensures { result ≡ get_or (calls_in frame.now) call CallOption.None }
+fn call_in(frame: &[u8], call: u8) -> Option<Call>
+    ensures { result ≡ get_or (calls_in frame.now) call None }
 {
     match call {
         0 => create_in(frame),
-        1 => CallOption::Some(Call::Affinity {
+        1 => Some(Call::Affinity {
             slot: slot_in(frame),
             mask: number(frame, 9, 8),
         }),
-        2 => CallOption::Some(Call::Terminate(slot_in(frame))),
-        3 => CallOption::Some(Call::Block(slot_in(frame))),
-        4 => CallOption::Some(Call::Wake(slot_in(frame))),
-        5 => CallOption::Some(Call::Enqueue(slot_in(frame))),
-        6 => CallOption::Some(Call::Schedule(core_at(frame, 1))),
-        7 => CallOption::Some(Call::Tick {
+        2 => Some(Call::Terminate(slot_in(frame))),
+        3 => Some(Call::Block(slot_in(frame))),
+        4 => Some(Call::Wake(slot_in(frame))),
+        5 => Some(Call::Enqueue(slot_in(frame))),
+        6 => Some(Call::Schedule(core_at(frame, 1))),
+        7 => Some(Call::Tick {
             core: core_at(frame, 1),
             elapsed_us: word_at(frame, 9),
         }),
-        8 => CallOption::Some(Call::Yield(core_at(frame, 1))),
-        9 => CallOption::Some(Call::Handoff(core_at(frame, 1))),
-        10 => CallOption::Some(Call::Plan {
+        8 => Some(Call::Yield(core_at(frame, 1))),
+        9 => Some(Call::Handoff(core_at(frame, 1))),
+        10 => Some(Call::Plan {
             core: core_at(frame, 1),
             elapsed_us: word_at(frame, 9),
         }),
-        11 => CallOption::Some(Call::CanRunOnCore {
+        11 => Some(Call::CanRunOnCore {
             slot: slot_in(frame),
             core: core_at(frame, 9),
         }),
-        12 => CallOption::Some(Call::TaskIndexForTid(Tid(word_at(frame, 1)))),
-        13 => CallOption::Some(Call::Task(slot_in(frame))),
-        14 => CallOption::Some(Call::CurrentTaskOnCpu(core_at(frame, 1))),
-        15 => CallOption::Some(Call::SystemTicksUs),
-        16 => CallOption::Some(Call::Holder(slot_in(frame))),
-        17..=255 => CallOption::None,
+        12 => Some(Call::TaskIndexForTid(Tid(word_at(frame, 1)))),
+        13 => Some(Call::Task(slot_in(frame))),
+        14 => Some(Call::CurrentTaskOnCpu(core_at(frame, 1))),
+        15 => Some(Call::SystemTicksUs),
+        16 => Some(Call::Holder(slot_in(frame))),
+        _ => None,
     }
 }
 
 // The arguments of create; a band above 2 makes it no frame.
-fn create_in(frame: &[u8]) -> CallOption
+fn create_in(frame: &[u8]) -> Option<Call>
     ensures { result ≡ create_in (coded_band (number_at 5 1 frame.now)) frame.now }
 {
-    let BandOption::Some(qos) = QoSClass::from_code(number(frame, 5, 1) as u8) else {
-        return CallOption::None;
-    };
-    CallOption::Some(Call::Create {
+    let qos = QoSClass::try_from(number(frame, 5, 1) as u8).ok()?;
+    Some(Call::Create {
         tid: Tid(word_at(frame, 1)),
         qos,
         context_handle: number(frame, 6, 8),

@@ -1,18 +1,15 @@
 // Answers: the bytes of an answer, in a lent buffer.
-ghost use Rattle.std.specs.Prelude.{◌≡◌, [], ◌∷◌, ◌+◌, ◌^◌, ◌<◌};
+ghost use Rattle.std.specs.Prelude.{◌≡◌, [], ◌∷◌, ◌+◌, ◌^◌, ◌<◌, Some};
 ghost use Rattle.std.proofs.lemmas.List.Edits.{sets};
 ghost use Rattle.frames.specs.Answer.{answer_bytes, record_bytes};
 ghost use Rattle.frames.specs.Private.{value_bytes, record_part};
 ghost use Rattle.frames.specs.Bytes.{Puts, written};
-ghost use Rattle.rules.specs.Paper.{status_number, pick_numbers, slot_number, core_number, flag_number};
+ghost use Rattle.rules.specs.Paper.{status_number, pick_numbers, slot_number, core_number};
 
 use crate::bytes::put_number;
 use crate::layout::{BUDGET_AT, CONTEXT_AT, RECORD_BYTES};
-use records::{SlotOption, TaskControlBlock};
-use scheduler::{
-    Answer, ContextSwitchPlan, ContextSwitchTarget, CoreOption, PickOption, PlanOption, Status,
-    TaskOption, Value,
-};
+use records::{SchedError, Slot, TaskControlBlock};
+use scheduler::{Answer, ContextSwitchPlan, ContextSwitchTarget, Pick, Value};
 
 // Where the value stands in an answer: behind the status, the pick's slot and the pick's band.
 pub(crate) const VALUE_AT: usize = 3;
@@ -26,7 +23,7 @@ const SWITCH_BYTES: usize = 11;
 // The longest answer: status, pick, 01 and a record.
 pub const ANSWER_MAX: usize = VALUE_AT + TASK_BYTES;
 
-// What stands for no slot, no band and no core.
+// What stands for no slot, no band and no core in the bytes that a host is given.
 const NONE: u64 = 255;
 
 // The answer's bytes at the front of a buffer, and how many they are; bytes behind them stay. A byte that has no place in
@@ -34,38 +31,33 @@ const NONE: u64 = 255;
 pub fn write_answer(answer: Answer, out: &mut [u8]) -> usize
     ensures { Puts (answer_bytes answer) 0 out.old out.new result }
 {
-    let status = answer.status;
-    let pick = answer.pick;
-    let value = answer.value;
-    put_number(out, 0, 1, status_number(status));
-    put_pick(pick, out);
-    VALUE_AT + put_value(value, out)
+    put_number(out, 0, 1, status_number(answer.status));
+    put_pick(answer.pick, out);
+    VALUE_AT + put_value(answer.value, out)
 }
 
 // 0, or the refusal.
-fn status_number(status: Status) -> u64
+fn status_number(status: Result<(), SchedError>) -> u64
     ensures { result ≡ status_number status }
 {
     match status {
-        Status::Done => 0,
-        Status::Refused(error) => error.code() as u64,
+        Ok(()) => 0,
+        Err(error) => u64::from(error.code()),
     }
 }
 
 // The slot and the band that it was picked from, or ff ff.
-fn put_pick(pick: PickOption, out: &mut [u8])
+fn put_pick(pick: Option<Pick>, out: &mut [u8])
     ensures { out.new ≡ sets out.old 1 (written (1 ∷ 1 ∷ []) (pick_numbers pick)) }
 {
     match pick {
-        PickOption::None => {
+        None => {
             put_number(out, 1, 1, NONE);
             put_number(out, 2, 1, NONE);
         }
-        PickOption::Some(picked) => {
-            let slot = picked.slot;
-            let band = picked.band;
+        Some(Pick { slot, band }) => {
             put_number(out, 1, 1, slot.0 as u64);
-            put_number(out, 2, 1, band.code() as u64);
+            put_number(out, 2, 1, u64::from(band.code()));
         }
     }
 }
@@ -77,9 +69,9 @@ fn put_value(value: Value, out: &mut [u8]) -> usize
     match value {
         Value::Nothing => 0,
         Value::Slot(slot) => put_byte(slot_number(slot), out),
-        Value::Core(core) => put_byte(core_number(core), out),
+        Value::Core(core) => put_byte(number_or_none(core), out),
         Value::Plan(plan) => put_plan(plan, out),
-        Value::Flag(flag) => put_byte(flag_number(flag), out),
+        Value::Flag(flag) => put_byte(u64::from(flag), out),
         Value::Task(task) => put_task(task, out),
         Value::Micros(us) => {
             put_number(out, VALUE_AT, 8, us);
@@ -97,23 +89,21 @@ fn put_byte(number: u64, out: &mut [u8]) -> usize
 }
 
 // 00, or 01, previous, target and the target's cr3.
-fn put_plan(plan: PlanOption, out: &mut [u8]) -> usize
+fn put_plan(plan: Option<ContextSwitchPlan>, out: &mut [u8]) -> usize
     ensures { Puts (value_bytes (Value.Plan plan)) 3 out.old out.new result }
 {
     match plan {
-        PlanOption::None => put_byte(0, out),
-        PlanOption::Some(switch) => put_switch(switch, out),
+        None => put_byte(0, out),
+        Some(switch) => put_switch(switch, out),
     }
 }
 
 fn put_switch(switch: ContextSwitchPlan, out: &mut [u8]) -> usize
-    ensures { Puts (value_bytes (Value.Plan (PlanOption.Some switch))) 3 out.old out.new result }
+    ensures { Puts (value_bytes (Value.Plan (Some switch))) 3 out.old out.new result }
 {
-    let previous = switch.prev_task_idx;
-    let target = switch.target;
     put_number(out, VALUE_AT, 1, 1);
-    put_number(out, VALUE_AT + 1, 1, slot_number(previous));
-    match target {
+    put_number(out, VALUE_AT + 1, 1, slot_number(switch.prev_task_idx));
+    match switch.target {
         ContextSwitchTarget::Task { task_idx, cr3 } => {
             put_number(out, VALUE_AT + 2, 1, task_idx.0 as u64);
             put_number(out, VALUE_AT + 3, 8, cr3);
@@ -127,12 +117,12 @@ fn put_switch(switch: ContextSwitchPlan, out: &mut [u8]) -> usize
 }
 
 // 00, or 01 and the record.
-fn put_task(task: TaskOption, out: &mut [u8]) -> usize
+fn put_task(task: Option<TaskControlBlock>, out: &mut [u8]) -> usize
     ensures { Puts (value_bytes (Value.Task task)) 3 out.old out.new result }
 {
     match task {
-        TaskOption::None => put_byte(0, out),
-        TaskOption::Some(record) => {
+        None => put_byte(0, out),
+        Some(record) => {
             put_number(out, VALUE_AT, 1, 1);
             put_record(record, out, VALUE_AT + 1);
             TASK_BYTES
@@ -155,11 +145,9 @@ fn put_identity(task: TaskControlBlock, out: &mut [u8], at: usize)
     requires { at + 6 < 2 ^ 64 }
     ensures { out.new ≡ sets out.old at (record_part 0 3 task) }
 {
-    let qos = task.qos;
-    let state = task.state;
-    put_number(out, at, 4, task.tid.0 as u64);
-    put_number(out, at + 4, 1, qos.code() as u64);
-    put_number(out, at + 5, 1, state.code() as u64);
+    put_number(out, at, 4, u64::from(task.tid.0));
+    put_number(out, at + 4, 1, u64::from(task.qos.code()));
+    put_number(out, at + 5, 1, u64::from(task.state.code()));
 }
 
 // context, cr3, rsp0, mask
@@ -178,34 +166,21 @@ fn put_times(task: TaskControlBlock, out: &mut [u8], at: usize)
     requires { at + 9 < 2 ^ 64 }
     ensures { out.new ≡ sets out.old at (record_part 7 3 task) }
 {
-    put_number(out, at, 4, task.slice_budget_us as u64);
-    put_number(out, at + 4, 4, task.consumed_slice_us as u64);
-    put_number(out, at + 8, 1, flag_number(task.in_use));
+    put_number(out, at, 4, u64::from(task.slice_budget_us));
+    put_number(out, at + 4, 4, u64::from(task.consumed_slice_us));
+    put_number(out, at + 8, 1, u64::from(task.in_use));
 }
 
-pub(crate) fn slot_number(slot: SlotOption) -> u64
+// The slot's number; 255 for none.
+fn slot_number(slot: Option<Slot>) -> u64
     ensures { result ≡ slot_number slot }
 {
-    match slot {
-        SlotOption::None => NONE,
-        SlotOption::Some(s) => s.0 as u64,
-    }
+    number_or_none(slot.map(|slot| slot.0))
 }
 
-fn core_number(core: CoreOption) -> u64
-    ensures { result ≡ core_number core }
+// The number; 255 for none.
+fn number_or_none(number: Option<usize>) -> u64
+    ensures { result ≡ core_number number }
 {
-    match core {
-        CoreOption::None => NONE,
-        CoreOption::Some(c) => c as u64,
-    }
-}
-
-fn flag_number(flag: bool) -> u64
-    ensures { result ≡ flag_number flag }
-{
-    if flag {
-        return 1;
-    }
-    0
+    number.map_or(NONE, |number| number as u64)
 }

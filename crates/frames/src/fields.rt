@@ -12,9 +12,7 @@ use crate::bytes::number;
 use crate::layout::{
     BAND_AT, BUDGET_AT, CONSUMED_AT, CONTEXT_AT, CR3_AT, IN_USE_AT, MASK_AT, RSP0_AT, STATE_AT,
 };
-use records::{
-    BandOption, QoSClass, StateOption, TaskControlBlock, ThreadState, Tid, band_slice_us,
-};
+use records::{QoSClass, TaskControlBlock, ThreadState, Tid, band_slice_us};
 
 // The record that 47 bytes stand for.
 pub(crate) fn record_in(bytes: &[u8]) -> TaskControlBlock
@@ -39,33 +37,21 @@ pub(crate) fn record_in(bytes: &[u8]) -> TaskControlBlock
 pub(crate) fn record_fits(bytes: &[u8]) -> bool
     ensures { result ≡ (codes_fit bytes.now && record_fits (record_in bytes.now)) }
 {
-    if !codes_fit(bytes) {
-        return false;
-    }
-    if is_in_use(bytes) == is_terminated(bytes) {
-        return false;
-    }
-    if number(bytes, MASK_AT, 8) == 0 {
-        return false;
-    }
     let slice = slice_in(bytes);
-    if !budget_fits(number(bytes, BUDGET_AT, 4), slice) {
-        return false;
-    }
-    number(bytes, CONSUMED_AT, 4) < slice
+    codes_fit(bytes)
+        && is_in_use(bytes) != is_terminated(bytes)
+        && number(bytes, MASK_AT, 8) != 0
+        && budget_fits(number(bytes, BUDGET_AT, 4), slice)
+        && number(bytes, CONSUMED_AT, 4) < slice
 }
 
 // Whether band, state and in use are codes: 0 to 2, 0 to 3, and 0 or 1.
 fn codes_fit(bytes: &[u8]) -> bool
     ensures { result ≡ codes_fit bytes.now }
 {
-    if number(bytes, BAND_AT, 1) > 2 {
-        return false;
-    }
-    if number(bytes, STATE_AT, 1) > 3 {
-        return false;
-    }
-    number(bytes, IN_USE_AT, 1) < 2
+    number(bytes, BAND_AT, 1) < 3
+        && number(bytes, STATE_AT, 1) < 4
+        && number(bytes, IN_USE_AT, 1) < 2
 }
 
 // Any byte but 1 reads as not in use.
@@ -79,41 +65,35 @@ fn is_in_use(bytes: &[u8]) -> bool
 pub(crate) fn is_ready(bytes: &[u8]) -> bool
     ensures { result ≡ is_state (record_in bytes.now).state Ready }
 {
-    state_in(bytes).is(ThreadState::Ready)
+    state_in(bytes) == ThreadState::Ready
 }
 
 // Whether the state is Terminated.
 fn is_terminated(bytes: &[u8]) -> bool
     ensures { result ≡ is_state (record_in bytes.now).state Terminated }
 {
-    state_in(bytes).is(ThreadState::Terminated)
+    state_in(bytes) == ThreadState::Terminated
 }
 
 // A byte that is no code reads as Terminated.
 fn state_in(bytes: &[u8]) -> ThreadState
     ensures { result ≡ (record_in bytes.now).state }
 {
-    match ThreadState::from_code(number(bytes, STATE_AT, 1) as u8) {
-        StateOption::Some(state) => state,
-        StateOption::None => ThreadState::Terminated,
-    }
+    ThreadState::try_from(number(bytes, STATE_AT, 1) as u8).unwrap_or(ThreadState::Terminated)
 }
 
 // A byte that is no code reads as Background.
 pub(crate) fn band_in(bytes: &[u8]) -> QoSClass
     ensures { result ≡ (record_in bytes.now).qos }
 {
-    match QoSClass::from_code(number(bytes, BAND_AT, 1) as u8) {
-        BandOption::Some(qos) => qos,
-        BandOption::None => QoSClass::Background,
-    }
+    QoSClass::try_from(number(bytes, BAND_AT, 1) as u8).unwrap_or(QoSClass::Background)
 }
 
 // The slice of a record's band.
 fn slice_in(bytes: &[u8]) -> u64
     ensures { result ≡ slice (record_in bytes.now).qos }
 {
-    band_slice_us(band_in(bytes)) as u64
+    u64::from(band_slice_us(band_in(bytes)))
 }
 
 // Whether a budget is 0 or the slice.
@@ -127,6 +107,5 @@ fn budget_fits(budget: u64, slice: u64) -> bool
 pub(crate) fn may_hold(bytes: &[u8]) -> bool
     ensures { result ≡ may_hold (record_in bytes.now) }
 {
-    let whole = number(bytes, BUDGET_AT, 4) == slice_in(bytes);
-    if is_in_use(bytes) { whole } else { false }
+    is_in_use(bytes) && number(bytes, BUDGET_AT, 4) == slice_in(bytes)
 }

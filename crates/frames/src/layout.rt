@@ -39,3 +39,6 @@ pub(crate) const MICROS_AT: usize = HOLDERS_AT + MAX_CPUS;
 
 // How many bytes an image has.
 pub const IMAGE_BYTES: usize = MICROS_AT + 8;
+
+// So many bytes, be they an image that is accepted or not.
+pub(crate) type Image = [u8; IMAGE_BYTES];

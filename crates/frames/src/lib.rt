@@ -6,6 +6,7 @@
 //   decode   a frame's bytes, read as a call
 //   encode   an answer's bytes, written into a lent buffer
 //   lines    the next line of a text, its call, and an answer as a line
+//   held     what is held of a line whose end has not come yet
 //   stream   text that comes in blocks, and the answers to its lines
 //   layout   where each part of a record and of an image stands
 //   parts    the parts of an image
@@ -27,6 +28,7 @@ mod bytes;
 mod decode;
 mod encode;
 mod fields;
+mod held;
 mod hex;
 mod host;
 mod image;
@@ -39,12 +41,12 @@ mod stream;
 mod touched;
 
 pub use accept::accepts_image;
-pub use decode::{CallOption, read_frame};
+pub use decode::read_frame;
 pub use encode::{ANSWER_MAX, write_answer};
-pub use host::{ImageAnswer, call_on_image, new_image, step};
+pub use host::{call_on_image, new_image, returned, step};
 pub use image::write_image;
 pub use layout::IMAGE_BYTES;
 pub use lines::{ANSWER_LINE_MAX, next_line, read_line};
-pub use read::{ImageRead, ImageStatus, check_image, read_image};
+pub use read::{check_image, read_image};
 pub use refusal::HostError;
 pub use stream::{Fed, Stream};

@@ -6,10 +6,10 @@ ghost use Rattle.frames.specs.Lines.{line_of, line_call, no_frame, line_text};
 ghost use Rattle.frames.specs.Private.{PutsLine};
 
 use crate::bytes::put_bytes;
-use crate::decode::{CallOption, read_frame};
+use crate::decode::read_frame;
 use crate::encode::{ANSWER_MAX, VALUE_AT, write_answer};
 use crate::hex::{from_hex, is_hex, put_hex};
-use scheduler::Answer;
+use scheduler::{Answer, Call};
 
 const NEWLINE: u8 = b'\n';
 
@@ -30,34 +30,25 @@ const NO_FRAME_LINE: usize = 2 * VALUE_AT + 1;
 pub fn next_line(input: &[u8], at: usize) -> &[u8]
     ensures { result.now ≡ line_of (drop at input.now) }
 {
-    if input.len() <= at {
-        return &input[..0];
-    }
-    let mut end = at;
-    while end < input.len() && input[end] != NEWLINE {
-        end += 1;
-    }
-    &input[at..end]
+    let rest = input.get(at..).unwrap_or(&[]);
+    let end = rest.iter().position(|byte| *byte == NEWLINE);
+    &rest[..end.unwrap_or(rest.len())]
 }
 
 // The call that a line of digits stands for.
-pub fn read_line(line: &[u8]) -> CallOption
+pub fn read_line(line: &[u8]) -> Option<Call>
     ensures { result ≡ line_call line.now }
 {
-    if LINE_MAX < line.len() {
-        return CallOption::None;
-    }
-    if !is_hex(line) {
-        return CallOption::None;
+    if LINE_MAX < line.len() || !is_hex(line) {
+        return None;
     }
     let mut frame = [0u8; FRAME_MAX];
     from_hex(line, &mut frame);
-    let n = line.len() / 2;
-    read_frame(&frame[..n])
+    read_frame(&frame[..line.len() / 2])
 }
 
-// An answer as a line of text, from `at` on, and how many bytes it has; where it has no room, nothing is stored and that is 0.
-pub(crate) fn put_answer(answer: Answer, out: &mut [u8], at: usize) -> usize
+// An answer as a line of text, from `at` on, and how many bytes it has; None where it has no room, and then nothing is stored.
+pub(crate) fn put_answer(answer: Answer, out: &mut [u8], at: usize) -> Option<usize>
     requires { at ≤ length out.old }
     ensures { PutsLine (answer_bytes answer) at out.old out.new result }
 {
@@ -65,22 +56,22 @@ pub(crate) fn put_answer(answer: Answer, out: &mut [u8], at: usize) -> usize
     let n = write_answer(answer, &mut bytes);
     let size = 2 * n + 1;
     if out.len() - at < size {
-        return 0;
+        return None;
     }
     put_line(&bytes[..n], out, at);
-    size
+    Some(size)
 }
 
 // The same of the answer to a line that is no frame.
-pub(crate) fn put_no_frame(out: &mut [u8], at: usize) -> usize
+pub(crate) fn put_no_frame(out: &mut [u8], at: usize) -> Option<usize>
     requires { at ≤ length out.old }
     ensures { PutsLine no_frame at out.old out.new result }
 {
     if out.len() - at < NO_FRAME_LINE {
-        return 0;
+        return None;
     }
     put_bytes(b"09ffff\n", out, at);
-    NO_FRAME_LINE
+    Some(NO_FRAME_LINE)
 }
 
 // An answer as a line of text, from `at` on.
@@ -98,8 +89,5 @@ pub(crate) fn past_newline(input: &[u8], end: usize) -> usize
     requires { end ≤ length input.now }
     ensures { result ≡ min (end + 1) (length input.now) }
 {
-    if end < input.len() {
-        return end + 1;
-    }
-    end
+    input.len().min(end + 1)
 }

@@ -1,14 +1,13 @@
 // The parts of an image: a slot's record, and where a band's queue stands and what its bytes are.
-ghost use Rattle.std.specs.Prelude.{◌≡◌, ◌+◌, ◌≤◌, ◌<◌, length};
-ghost use Rattle.frames.specs.Image.{queue_length, queue_place, holders_place, image_length, record_at, queue_at, length_byte, slot_byte};
+ghost use Rattle.std.specs.Prelude.{◌≡◌, ◌+◌, ◌≤◌, ◌<◌};
+ghost use Rattle.frames.specs.Image.{queue_length, queue_place, holders_place, record_at, queue_at, length_byte, slot_byte};
 
-use crate::layout::{QUEUE_BYTES, QUEUES_AT, RECORD_BYTES};
+use crate::layout::{Image, QUEUE_BYTES, QUEUES_AT, RECORD_BYTES};
 use records::QoSClass;
 
 // A slot's record, as that part of the image.
-pub(crate) fn record_at(image: &[u8], slot: usize) -> &[u8]
-    requires image_len { length image.now ≡ image_length }
-    requires slot_bound { slot < 64 }
+pub(crate) fn record_at(image: &Image, slot: usize) -> &[u8]
+    requires { slot < 64 }
     ensures { result.now ≡ record_at slot image.now }
 {
     let at = RECORD_BYTES * slot;
@@ -16,25 +15,23 @@ pub(crate) fn record_at(image: &[u8], slot: usize) -> &[u8]
 }
 
 // How many entries a band's queue has, by the image.
-pub(crate) fn length_byte(image: &[u8], band: QoSClass) -> usize
-    requires { length image.now ≡ image_length }
+pub(crate) fn length_byte(image: &Image, band: QoSClass) -> usize
     ensures { result ≡ length_byte (queue_at band image.now) }
 {
-    image[queue_at(band)] as usize
+    usize::from(image[queue_at(band)])
 }
 
 // What stands at one of the 64 places of a band's queue.
-pub(crate) fn slot_byte(image: &[u8], band: QoSClass, place: usize) -> usize
-    requires image_len { length image.now ≡ image_length }
-    requires place_bound { place < 64 }
+pub(crate) fn slot_byte(image: &Image, band: QoSClass, place: usize) -> usize
+    requires { place < 64 }
     ensures { result ≡ slot_byte place (queue_at band image.now) }
 {
-    image[queue_at(band) + 1 + place] as usize
+    usize::from(image[queue_at(band) + 1 + place])
 }
 
 // Where a band's queue begins; all its bytes stand before the holders.
 pub(crate) fn queue_at(band: QoSClass) -> usize
     ensures { (result ≡ queue_place band) × (result + queue_length ≤ holders_place) }
 {
-    QUEUES_AT + QUEUE_BYTES * band.code() as usize
+    QUEUES_AT + QUEUE_BYTES * usize::from(band.code())
 }

@@ -2,14 +2,11 @@
 ghost use Rattle.std.specs.Prelude.{◌≡◌};
 ghost use Rattle.frames.specs.Host.{host_number};
 
-// The refusal of bytes that are no frame, in text and at the host entry.
-pub(crate) const NO_FRAME: u64 = 9;
-
 // Why no call was made.
-#[derive(Clone, Copy)]
+#[derive(Clone, Copy, PartialEq, Eq)]
 pub enum HostError {
     // 7: the image does not have IMAGE_BYTES bytes, or the answer buffer has under ANSWER_MAX.
-    WrongLength,
+    WrongLength = 7,
     // 8: the image is not accepted.
     NotAccepted,
     // 9: the frame's bytes are no frame.
@@ -21,10 +18,6 @@ impl HostError {
     pub fn code(self) -> u64
         ensures { result ≡ host_number self }
     {
-        match self {
-            HostError::WrongLength => 7,
-            HostError::NotAccepted => 8,
-            HostError::NoFrame => NO_FRAME,
-        }
+        u64::from(self as u8)
     }
 }

@@ -1,92 +1,52 @@
 // The two slots whose records a call can change: the one that it names or that its core holds, and the one that it answers with.
-ghost use Rattle.std.specs.Prelude.{◌≡◌, length};
+ghost use Rattle.std.specs.Prelude.{◌≡◌};
+ghost use Rattle.rules.specs.Paper.{slot_number};
 ghost use Rattle.rules.specs.State.{holder};
-ghost use Rattle.rules.specs.Touched.{named_slot, value_slot, answered_slot};
-ghost use Rattle.frames.specs.Image.{image_length, state_at};
+ghost use Rattle.rules.specs.Touched.{named_slot, answered_slot};
+ghost use Rattle.frames.specs.Image.{state_at};
 
-use crate::encode::slot_number;
-use crate::layout::HOLDERS_AT;
-use records::MAX_CPUS;
-use scheduler::{Answer, Call, NO_HOLDER, PickOption, Value};
+use crate::layout::{HOLDERS_AT, Image};
+use records::{MAX_CPUS, Slot};
+use scheduler::{Answer, Call, NO_HOLDER, Value};
 
-// What stands for no slot.
-const NONE: usize = NO_HOLDER as usize;
-
-// The slot that a call names, or that its core holds; 255 for none.
-pub(crate) fn named_slot(call: Call, image: &[u8]) -> usize
-    requires { length image.now ≡ image_length }
-    ensures { result ≡ named_slot call (state_at image.now) }
+// The slot that a call names, or that its core holds.
+pub(crate) fn named_slot(call: Call, image: &Image) -> Option<Slot>
+    ensures { slot_number result ≡ named_slot call (state_at image.now) }
 {
     match call {
-        Call::Create {
-            tid: _,
-            qos: _,
-            context_handle: _,
-            cr3: _,
-            rsp0: _,
-        } => NONE,
-        Call::Affinity { slot, mask: _ } => slot.0,
-        Call::Terminate(slot) => slot.0,
-        Call::Block(slot) => slot.0,
-        Call::Wake(slot) => slot.0,
-        Call::Enqueue(slot) => slot.0,
-        Call::Schedule(_) => NONE,
-        Call::Tick {
-            core,
-            elapsed_us: _,
-        } => holder_in(image, core),
-        Call::Yield(core) => holder_in(image, core),
-        Call::Handoff(core) => holder_in(image, core),
-        Call::Plan {
-            core,
-            elapsed_us: _,
-        } => holder_in(image, core),
-        Call::CanRunOnCore { slot: _, core: _ } => NONE,
-        Call::TaskIndexForTid(_) => NONE,
-        Call::Task(_) => NONE,
-        Call::CurrentTaskOnCpu(_) => NONE,
-        Call::SystemTicksUs => NONE,
-        Call::Holder(_) => NONE,
+        Call::Affinity { slot, .. }
+        | Call::Terminate(slot)
+        | Call::Block(slot)
+        | Call::Wake(slot)
+        | Call::Enqueue(slot) => Some(slot),
+        Call::Tick { core, .. }
+        | Call::Yield(core)
+        | Call::Handoff(core)
+        | Call::Plan { core, .. } => holder_in(image, core),
+        _ => None,
     }
 }
 
-// A core's holder, or 255; a core of 64 and above has none.
-fn holder_in(image: &[u8], core: usize) -> usize
-    requires { length image.now ≡ image_length }
-    ensures { result ≡ holder (state_at image.now) core }
+// A core's holder; a core of 64 and above has none.
+fn holder_in(image: &Image, core: usize) -> Option<Slot>
+    ensures { slot_number result ≡ holder (state_at image.now) core }
 {
     if core >= MAX_CPUS {
-        return NONE;
+        return None;
     }
-    image[HOLDERS_AT + core] as usize
-}
-
-// The slot that an answer tells of: its pick, or else its value; 255 for none.
-pub(crate) fn answered_slot(answer: Answer) -> usize
-    ensures { result ≡ answered_slot answer }
-{
-    let pick = answer.pick;
-    let value = answer.value;
-    match pick {
-        PickOption::Some(picked) => {
-            let slot = picked.slot;
-            slot.0
-        }
-        PickOption::None => value_slot(value),
+    match image[HOLDERS_AT + core] {
+        NO_HOLDER => None,
+        holder => Some(Slot(usize::from(holder))),
     }
 }
 
-// A value that is a slot; 255 for every other value.
-fn value_slot(value: Value) -> usize
-    ensures { result ≡ value_slot value }
+// The slot that an answer tells of: its pick, or else its value.
+pub(crate) fn answered_slot(answer: Answer) -> Option<Slot>
+    ensures { slot_number result ≡ answered_slot answer }
 {
-    match value {
-        Value::Slot(slot) => slot_number(slot) as usize,
-        Value::Nothing => NONE,
-        Value::Core(_) => NONE,
-        Value::Plan(_) => NONE,
-        Value::Flag(_) => NONE,
-        Value::Task(_) => NONE,
-        Value::Micros(_) => NONE,
+    match (answer.pick, answer.value) {
+        (Some(pick), _) => Some(pick.slot),
+        (None, Value::Slot(slot)) => slot,
+        _ => None,
     }
 }

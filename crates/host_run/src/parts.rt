@@ -1,56 +1,62 @@
-// An image's parts, as document 01 has them: records of 47 bytes, queues of 65, holders, microseconds.
-use crate::show::show_part;
+// An image's parts, as document 01 has them: records of 47 bytes, queues of 65, holders, microseconds. The numbers are document
+// 01's own and not the constants of `frames`, so that the program checks those.
+ghost use Rattle.std.specs.Prelude.{◌<◌};
 
-// An image's length. This and the places below are document 01's own numbers and not the constants of `frames`, so that the
-// program checks those.
+use std::io;
+use text::Hex;
+
+// An image's length.
 pub(crate) const IMAGE: usize = 3275;
 
-// Where the records of slots 1 to 5 and 63 begin.
-pub(crate) const SLOT_1: usize = 47;
-
-pub(crate) const SLOT_2: usize = 94;
-
-pub(crate) const SLOT_3: usize = 141;
-
-pub(crate) const SLOT_4: usize = 188;
-
-pub(crate) const SLOT_5: usize = 235;
-
-pub(crate) const SLOT_63: usize = 2961;
+// A record's length; they stand at an image's front, slot by slot.
+pub(crate) const RECORD: usize = 47;
 
 // Where the queues begin.
-pub(crate) const QUEUE_0: usize = 3008;
+pub(crate) const QUEUES: usize = 3008;
 
-pub(crate) const QUEUE_1: usize = 3073;
-
-pub(crate) const QUEUE_2: usize = 3138;
+// A queue's length.
+const QUEUE: usize = 65;
 
 pub(crate) const HOLDERS: usize = 3203;
 
 pub(crate) const MICROS: usize = 3267;
 
-// A line with the record that begins at `at`.
-pub(crate) fn show_record(name: &[u8], image: [u8; IMAGE], at: usize) {
-    show_part(name, &image, at, 47);
+pub(crate) type Image = [u8; IMAGE];
+
+// A line with a slot's record.
+pub(crate) fn show_record(rt: &impl Print, image: Image, slot: usize) -> io::Result<()>
+    requires { slot < 64 }
+{
+    let at = RECORD * slot;
+    println!(rt; "slot {slot} {}", Hex(&image[at..at + RECORD]))
 }
 
-// A line with the queue that begins at `at`.
-pub(crate) fn show_queue(name: &[u8], image: [u8; IMAGE], at: usize) {
-    show_part(name, &image, at, 65);
+// A line with a band's queue.
+pub(crate) fn show_queue(rt: &impl Print, image: Image, band: usize) -> io::Result<()>
+    requires { band < 3 }
+{
+    let at = QUEUES + QUEUE * band;
+    println!(rt; "queue {band} {}", Hex(&image[at..at + QUEUE]))
 }
 
-pub(crate) fn show_holders(image: [u8; IMAGE]) {
-    show_part(b"holders", &image, HOLDERS, 64);
+pub(crate) fn show_holders(rt: &impl Print, image: Image) -> io::Result<()> {
+    println!(rt; "holders {}", Hex(&image[HOLDERS..MICROS]))
 }
 
-pub(crate) fn show_time(image: [u8; IMAGE]) {
-    show_part(b"microseconds", &image, MICROS, 8);
+pub(crate) fn show_time(rt: &impl Print, image: Image) -> io::Result<()> {
+    println!(rt; "microseconds {}", Hex(&image[MICROS..]))
 }
 
 // An image with this byte at this place.
-pub(crate) fn with(mut image: [u8; IMAGE], at: usize, byte: u8) -> [u8; IMAGE] {
-    if at < IMAGE {
-        image[at] = byte;
-    }
+pub(crate) fn with(mut image: Image, at: usize, byte: u8) -> Image
+    requires { at < 3275 }
+{
+    image[at] = byte;
+    image
+}
+
+// An image with these system microseconds.
+pub(crate) fn with_time(mut image: Image, micros: u64) -> Image {
+    image[MICROS..].copy_from_slice(&micros.to_be_bytes());
     image
 }

@@ -1,61 +1,54 @@
 // How images, frames and answer buffers are passed to the host's entries.
-ghost use Rattle.scheduler.specs.Scheduler.{Valid};
+ghost use Rattle.std.specs.Prelude.{◌≤◌};
 
-use crate::parts::IMAGE;
+use crate::parts::{IMAGE, Image};
 use crate::show::{MARK, show_step};
 use frames::{new_image, step, write_image};
 use scheduler::QoSScheduler;
+use std::io;
 
 // An answer buffer that is longer than it has to be.
-const ROOM: usize = 60;
+pub(crate) const ROOM: usize = 60;
 
 // A frame in the longer buffer, shown; the image after it.
-pub(crate) fn called(what: &[u8], image: [u8; IMAGE], frame: &[u8]) -> [u8; IMAGE] {
-    called_in(ROOM, what, image, frame)
+pub(crate) fn called(rt: &impl Print, what: &str, image: Image, frame: &[u8]) -> io::Result<Image> {
+    called_in(rt, ROOM, what, image, frame)
 }
 
 // A frame in a buffer of `room` bytes, the front of a longer one, shown with all of that; the image after it.
-pub(crate) fn called_in(room: usize, what: &[u8], image: [u8; IMAGE], frame: &[u8]) -> [u8; IMAGE] {
+pub(crate) fn called_in(
+    rt: &impl Print,
+    room: usize,
+    what: &str,
+    image: Image,
+    frame: &[u8],
+) -> io::Result<Image>
+    requires { room ≤ 60 }
+{
     let mut after = image;
     let mut buffer = [MARK; ROOM];
-    let returned = passed(&mut after, IMAGE, frame, &mut buffer, room);
-    show_step(what, room, returned, &buffer, same(&after, &image));
-    after
+    let returned = step(&mut after, frame, &mut buffer[..room]);
+    show_step(rt, what, room, returned, &buffer, after == image)?;
+    Ok(after)
 }
 
 // A frame on the first `n` bytes of a new scheduler's image with one byte behind it, shown with all of them.
-pub(crate) fn called_on(n: usize, what: &[u8], frame: &[u8]) {
+pub(crate) fn called_on(rt: &impl Print, n: usize, what: &str, frame: &[u8]) -> io::Result<()>
+    requires { n ≤ 3276 }
+{
     let mut bytes = [MARK; IMAGE + 1];
-    made(&mut bytes, IMAGE);
+    // not refused, since the length is an image's
+    let _ = new_image(&mut bytes[..IMAGE]);
     let before = bytes;
     let mut buffer = [MARK; ROOM];
-    let returned = passed(&mut bytes, n, frame, &mut buffer, ROOM);
-    show_step(what, ROOM, returned, &buffer, same(&bytes, &before));
+    let returned = step(&mut bytes[..n], frame, &mut buffer);
+    show_step(rt, what, ROOM, returned, &buffer, bytes == before)
 }
 
-// The entry's number for an image of the first `n` bytes and a buffer of the first `room`; 0 where there are fewer.
-fn passed(bytes: &mut [u8], n: usize, frame: &[u8], buffer: &mut [u8], room: usize) -> u64 {
-    if n <= bytes.len() {
-        if room <= buffer.len() {
-            return step(&mut bytes[..n], frame, &mut buffer[..room]);
-        }
-    }
-    0
-}
-
-// The entry's number for a new image over the first `n` bytes; 1 where there are fewer.
-pub(crate) fn made(bytes: &mut [u8], n: usize) -> u64 {
-    if n <= bytes.len() {
-        return new_image(&mut bytes[..n]);
-    }
-    1
-}
-
-// The image after a frame whose answer nobody looks at.
-pub(crate) fn stepped(mut image: [u8; IMAGE], frame: &[u8]) -> [u8; IMAGE] {
+// A frame on an image; nobody looks at what comes of it.
+pub(crate) fn step_on(image: &mut Image, frame: &[u8]) {
     let mut buffer = [MARK; ROOM];
-    step(&mut image, frame, &mut buffer);
-    image
+    let _ = step(image, frame, &mut buffer);
 }
 
 // Create with context 0x0102030405060708, cr3 0x1000 and rsp0 0x2000.
@@ -68,25 +61,9 @@ pub(crate) fn create_frame(tid: u8, band: u8) -> [u8; 30] {
 }
 
 // A scheduler's image.
-pub(crate) fn written(state: QoSScheduler) -> [u8; IMAGE]
-    requires { Valid state }
-{
+pub(crate) fn written(state: QoSScheduler) -> Image {
     let mut image = [MARK; IMAGE];
-    write_image(state, &mut image);
+    // not refused, since the length is an image's
+    let _ = write_image(state, &mut image);
     image
-}
-
-// Whether two runs of bytes are the same.
-pub(crate) fn same(a: &[u8], b: &[u8]) -> bool {
-    if a.len() != b.len() {
-        return false;
-    }
-    let mut k = 0;
-    while k < a.len() {
-        if a[k] != b[k] {
-            return false;
-        }
-        k += 1;
-    }
-    true
 }

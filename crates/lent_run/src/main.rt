@@ -4,16 +4,16 @@
 #![tactic(auto)]
 
 mod cases;
-mod comparing;
-mod lending;
+mod outcome;
 mod rounds;
 mod show;
 
 use cases::{cases, told_apart};
 use rounds::rounds;
+use std::io;
 
-fn main() {
-    cases();
-    told_apart();
-    rounds();
+fn main(rt: HostRuntime) -> io::Result<()> {
+    cases(&rt)?;
+    told_apart(&rt)?;
+    rounds(&rt)
 }

@@ -1,82 +1,51 @@
 // A long list of calls: in each round one by value, then a block and a tick on a lent state, from which the next round goes
 // on. 64 tasks in three bands; slots 0 to 65 and cores 0, 21, 42, 63 and 84 are named, so that there are some too large.
-ghost use Rattle.scheduler.specs.Scheduler.{Valid};
-
-use crate::comparing::as_by_value;
-use crate::lending::lend;
-use crate::show::{show_count, show_whether};
+use crate::cases::create;
+use crate::outcome::Asked;
 use records::{MAX_TASKS, QoSClass, Slot, Tid};
-use scheduler::{Answer, Call, PickOption, QoSScheduler, Status};
+use samples::after;
+use scheduler::{Call, QoSScheduler};
+use std::io;
+use text::yes_or_no;
 
 const ROUNDS: u64 = 5_000;
 
 // The rounds show something only if more than so many of them block a task, and more than so many pick one.
 const MANY: u64 = 500;
 
-pub(crate) fn rounds() {
+pub(crate) fn rounds(rt: &impl Print) -> io::Result<()> {
     let mut state = crowd();
     let mut seed = 1;
-    let mut round = 0;
-    let mut blocks = 0;
-    let mut picks = 0;
-    let mut differences = 0;
-    while round < ROUNDS {
-        let next = state.apply(call_of(seed));
-        let before = next.state;
+    let mut blocks: u64 = 0;
+    let mut picks: u64 = 0;
+    let mut differences: u64 = 0;
+    for _round in 0..ROUNDS {
+        let before = after(state, &[call_of(seed)]);
         seed = number_after(seed);
-        let slot = slot_of(seed);
-        let core = core_of(seed);
-        let elapsed_us = seed % 3_000;
-        let lent = lend(before, slot, core, elapsed_us);
-        if is_done(lent.blocked) {
-            blocks = std::num::wrapping_add_u64(blocks, 1);
-        }
-        if has_pick(lent.ticked) {
-            picks = std::num::wrapping_add_u64(picks, 1);
-        }
-        if !as_by_value(before, slot, core, elapsed_us, lent) {
-            differences = std::num::wrapping_add_u64(differences, 1);
-        }
-        let after = lent.after;
-        state = after;
+        let asked = Asked {
+            slot: slot_of(seed),
+            core: core_of(seed),
+            elapsed_us: seed % 3_000,
+        };
+        let lent = asked.lent(before);
+        blocks += u64::from(lent.blocked.status.is_ok());
+        picks += u64::from(lent.ticked.pick.is_some());
+        differences += u64::from(!lent.is_same(&asked.by_value(before)));
+        state = lent.after;
         seed = number_after(seed);
-        round += 1;
     }
-    show_count(b"Rounds", round);
-    show_whether(b"Many of them block", blocks > MANY);
-    show_whether(b"Many of them pick", picks > MANY);
-    show_count(b"Rounds that are not as by value", differences);
-}
-
-fn is_done(answer: Answer) -> bool {
-    let status = answer.status;
-    match status {
-        Status::Done => true,
-        Status::Refused(_) => false,
-    }
-}
-
-fn has_pick(answer: Answer) -> bool {
-    let pick = answer.pick;
-    match pick {
-        PickOption::Some(_) => true,
-        PickOption::None => false,
-    }
+    println!(rt; "Rounds: {ROUNDS}")?;
+    println!(rt; "Many of them block: {}", yes_or_no(blocks > MANY))?;
+    println!(rt; "Many of them pick: {}", yes_or_no(picks > MANY))?;
+    println!(rt; "Rounds that are not as by value: {differences}")
 }
 
 // 64 tasks, slot i in band i modulo 3, all waiting.
-fn crowd() -> QoSScheduler
-    ensures { Valid result }
-{
+fn crowd() -> QoSScheduler {
     let mut state = QoSScheduler::new();
-    let mut slot = 0;
-    while slot < MAX_TASKS {
-        let made = state.create_task(Tid(7), band_of(slot), 1);
-        let with_task = made.state;
-        let ready = with_task.enqueue_ready(Slot(slot));
-        let next = ready.state;
-        state = next;
-        slot += 1;
+    for slot in 0..MAX_TASKS {
+        let task = create(Tid(7), band_of(slot));
+        state = after(state, &[task, Call::Enqueue(Slot(slot))]);
     }
     state
 }

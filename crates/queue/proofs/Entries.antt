@@ -9,7 +9,7 @@ use lib.Dec.{ltb}
 use lib.ListN.{length, get_or, drop, replicate, length-append, length-replicate, drop_of_length-le}
 use lib.Seq.{take_all, take-append_seam}
 use Rattle.records.specs.declared.ids.Slot.{Slot}
-use Rattle.records.specs.declared.ids.SlotOption.TheVariants.{None, Some}
+use Rattle.std.specs.Prelude.{Option, None, Some}
 use Rattle.records.proofs.Cases.{split}
 use Rattle.queue.specs.Entries.{full, takes, pushed, without, entry_at, taken_at, places}
 
@@ -41,14 +41,14 @@ entry_at-past place es l = rw (le-ltb place (length es) l)
 pub entry_at-some : (place : ℕ) (es : List ℕ) (slot : Slot) → entry_at place es ≡ Some slot → (place < length es) × (get_or es place 0 ≡ slot.0)
 unfolding entry_at
 entry_at-some place es slot =
-    split (λ (b : Bool). cond b (Some (record { 0 = get_or es place 0 })) None ≡ Some slot → (place < length es) × (get_or es place 0 ≡ slot.0)) (ltb place (length es))
+    split (λ (b : Bool). ◌≡◌ {A = Option Slot} (cond b (Some (record { 0 = get_or es place 0 })) None) (Some slot) → (place < length es) × (get_or es place 0 ≡ slot.0)) (ltb place (length es))
     (λ t e. let same : ◌≡◌ {A = Slot} (record { 0 = get_or es place 0 }) slot = cc in (ltb-true place (length es) t, ap (λ (s : Slot). s.0) same))
     (λ f e. let never : ◌≡◌ {A = ℕ} 0 1 = cc in absurd (omega arith))
 
 pub entry_at-none : (place : ℕ) (es : List ℕ) → entry_at place es ≡ None → length es ≤ place
 unfolding entry_at
 entry_at-none place es =
-    split (λ (b : Bool). cond b (Some (record { 0 = get_or es place 0 })) None ≡ None → length es ≤ place) (ltb place (length es))
+    split (λ (b : Bool). ◌≡◌ {A = Option Slot} (cond b (Some (record { 0 = get_or es place 0 })) None) None → length es ≤ place) (ltb place (length es))
     (λ t e. let never : ◌≡◌ {A = ℕ} 0 1 = cc in absurd (omega arith))
     (λ f e. ltb-false place (length es) f)
 

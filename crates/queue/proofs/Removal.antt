@@ -8,7 +8,7 @@ use native.Mathlib.Omega.{arith}
 use lib.ListN.{length, get_or, set, length-set}
 use Rattle.queue.specs.declared.BandQueue.{BandQueue}
 use Rattle.queue.specs.Entries.{without}
-use Rattle.queue.specs.Stored.{window, entries, WellFormed, Holds}
+use Rattle.queue.specs.Stored.{window, entries}
 use Rattle.queue.proofs.Entries.{without-same, without_other}
 use Rattle.queue.proofs.Ring.{window_next, window_apart, window_store}
 
@@ -20,11 +20,11 @@ pub record Removing (q : BandQueue) (slot : ℕ) (ring : List ℕ) (kept place :
   pub place_le : place ≤ q.len
   pub left : window ring q.head kept ++ without slot (window ring (q.head + place) (q.len - place)) ≡ without slot (entries q)
 
-module _ (q : BandQueue) (slot : ℕ) (good : WellFormed q) where
+module _ (q : BandQueue) (slot : ℕ) where
   pub removing_start : Removing q slot q.ring 0 0
   unfolding window entries
   removing_start = record {
-    whole = good.whole;
+    whole = q.whole;
     kept_le = omega arith;
     place_le = omega arith;
     left = λ i. without slot (window q.ring (add-zero q.head i) (sub-zero q.len i));
@@ -72,16 +72,12 @@ module _ (q : BandQueue) (slot : ℕ) (good : WellFormed q) where
             ∙ left_next;
       }
 
-  pub removed : (ring : List ℕ) (head kept place : ℕ) → head ≡ q.head → Removing q slot ring kept place → q.len ≤ place
-      → Holds (record { ring = ring; head = head; len = kept }) (without slot (entries q))
-  unfolding window entries without
-  removed ring head kept place same t end =
+  -- once all were looked at, those kept are what the removal asks for
+  pub removed : (ring : List ℕ) (kept place : ℕ) → Removing q slot ring kept place → q.len ≤ place
+      → window ring q.head kept ≡ without slot (entries q)
+  unfolding window without
+  removed ring kept place t end =
       let none : q.len - place ≡ 0 = omega arith in
-      record {
-        well_formed = record { whole = t.whole; head_in = omega arith; len_in = omega arith };
-        entries_are =
-            ap (λ (h : ℕ). window ring h kept) same
-            ∙ sym (append-nil (window ring q.head kept))
-            ∙ ap (λ (n : ℕ). window ring q.head kept ++ without slot (window ring (q.head + place) n)) (sym none)
-            ∙ t.left;
-      }
+      sym (append-nil (window ring q.head kept))
+      ∙ ap (λ (n : ℕ). window ring q.head kept ++ without slot (window ring (q.head + place) n)) (sym none)
+      ∙ t.left

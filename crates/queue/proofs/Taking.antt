@@ -7,11 +7,11 @@ use native.Mathlib.Omega.{arith}
 use lib.ListN.{length, get_or, set, take, drop, length-set}
 use lib.Seq.{drop-cons, take-suc}
 use Rattle.records.specs.declared.ids.Slot.{Slot}
-use Rattle.records.specs.declared.ids.SlotOption.TheVariants.{None, Some}
+use Rattle.std.specs.Prelude.{None, Some}
 use Rattle.queue.specs.declared.BandQueue.{BandQueue}
 use Rattle.queue.specs.Promises.{Take}
-use Rattle.queue.specs.Entries.{taken_at}
-use Rattle.queue.specs.Stored.{window, entries, WellFormed}
+use Rattle.queue.specs.Entries.{entry_at, taken_at}
+use Rattle.queue.specs.Stored.{window, entries}
 use Rattle.queue.proofs.Entries.{entry_at_in, taken_at-past}
 use Rattle.queue.proofs.Ring.{window_front, window-behind, window-turn}
 use Rattle.queue.proofs.Places.{length_entries, entry_past}
@@ -36,17 +36,17 @@ pub record Turned (q : BandQueue) (moved : ℕ) (ring : List ℕ) (head : ℕ) :
   pub head_in : head < 64
   pub stands : window ring head q.len ≡ turned moved (entries q)
 
-module _ (q : BandQueue) (good : WellFormed q) where
+module _ (q : BandQueue) where
   -- past the tail nothing leaves and nothing moves
-  pub taken_none : (place : ℕ) → q.len ≤ place → Take q place (record { slot = None; queue = q })
+  pub taken_none : (place : ℕ) → q.len ≤ place → Take q place None q
   taken_none place past = record {
-    slot_is = entry_past q place past;
-    queue_is = record { well_formed = good; entries_are = sym (taken_at-past place (entries q) (omega (arith, length_entries q))) };
+    answer_is = entry_past q place past;
+    entries_are = sym (taken_at-past place (entries q) (omega (arith, length_entries q)));
   }
 
   pub turned_none : Turned q 0 q.ring q.head
   unfolding entries
-  turned_none = record { whole = good.whole; head_in = good.head_in; stands = sym (append-nil (entries q)) }
+  turned_none = record { whole = q.whole; head_in = q.head_in; stands = sym (append-nil (entries q)) }
 
   module _ (moved : ℕ) (ring : List ℕ) (head : ℕ) (t : Turned q moved ring head) (more : moved < q.len) where
     -- the front is the entry at place `moved`
@@ -58,19 +58,15 @@ module _ (q : BandQueue) (good : WellFormed q) where
       whole = length-set ring ((head + q.len) % 64) (get_or ring head 0) ∙ t.whole;
       head_in = omega arith;
       stands =
-          window-turn ring head q.len t.whole t.head_in good.len_in front
+          window-turn ring head q.len t.whole t.head_in q.len_in front
           ∙ turned_more moved (entries q) (omega (arith, length_entries q))
           ∙ ap (λ (k : ℕ). turned k (entries q)) (sym (add-one moved));
     }
 
-    pub turned_taken : (slot : Slot) → slot.0 ≡ get_or ring head 0
-        → Take q moved (record { slot = Some slot; queue = record { ring = ring; head = (head + 1) % 64; len = q.len - 1 } })
-    unfolding entries
-    turned_taken slot is = record {
-      slot_is =
-          sym (entry_at_in moved (entries q) slot (omega (arith, length_entries q)) (sym (is ∙ window_front ring head q.len t.head_in front)));
-      queue_is = record {
-        well_formed = record { whole = t.whole; head_in = omega arith; len_in = omega arith };
-        entries_are = window-behind ring head q.len front;
-      };
-    }
+    -- and leaves, the rest standing behind it
+    pub turned_answer : (slot : Slot) → slot.0 ≡ get_or ring head 0 → Some slot ≡ entry_at moved (entries q)
+    turned_answer slot is =
+        sym (entry_at_in moved (entries q) slot (omega (arith, length_entries q)) (sym (is ∙ window_front ring head q.len t.head_in front)))
+
+    pub turned_rest : window ring ((head + 1) % 64) (q.len - 1) ≡ taken_at moved (entries q)
+    turned_rest = window-behind ring head q.len front

@@ -1,12 +1,17 @@
 -- Document 01's rules for a queue, on its list of entries from front to tail: the table of refusals (full), "Waiting and waking" (push and
 -- removal), "Picking" (the entry at a place, and taking it) and "Task record, queues, holders" (places).
-use Rattle.std.specs.Prelude.{Bool, cond, not, ◌&&◌, List, [], ◌∷◌, ◌++◌, ℕ, suc, ◌-◌, ltb, leb, eqb, length, get_or, take, drop, replicate}
-use Rattle.records.specs.declared.ids.SlotOption.{SlotOption}
-use Rattle.records.specs.declared.ids.SlotOption.TheVariants.{None, Some}
+use Rattle.std.specs.Prelude.{Bool, cond, not, ◌&&◌, List, [], ◌∷◌, ◌++◌, ℕ, suc, ◌-◌, ltb, leb, eqb, length, get_or, take, drop, replicate, Option, None, Some, Result, Ok, Err}
+use Rattle.records.specs.declared.error.SchedError.{SchedError}
+use Rattle.records.specs.declared.error.SchedError.TheVariants.{QueueFull, NoSuchTask}
+use Rattle.records.specs.declared.ids.Slot.{Slot}
 
 -- "64 entries stand in it"
 abbrev pub full : List ℕ → Bool
 full es = leb 64 (length es)
+
+-- what a push answers: 3 for a number that is no slot of the table, 2 where the queue is full
+abbrev pub push_result : ℕ → List ℕ → Result Unit SchedError
+push_result slot es = cond (ltb slot 64) (cond (full es) (Err QueueFull) (Ok tt)) (Err NoSuchTask)
 
 -- a push is taken: the number is a slot of the table, and the queue has room
 abbrev pub takes : ℕ → List ℕ → Bool
@@ -22,7 +27,7 @@ without slot [] = []
 without slot (e ∷ es) = cond (eqb e slot) (without slot es) (e ∷ without slot es)
 
 -- the entry at a place, counted from 0 at the front; none past the tail
-unfoldable pub entry_at : ℕ → List ℕ → SlotOption
+unfoldable pub entry_at : ℕ → List ℕ → Option Slot
 entry_at place es = cond (ltb place (length es)) (Some (record { 0 = get_or es place 0 })) None
 
 -- rule P: "Entries before it move to that queue's tail in their order and it leaves." Past the tail this is the list itself.

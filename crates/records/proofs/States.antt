@@ -8,7 +8,7 @@ use borrow.Author.Tests.{eqb-true, eq-eqb}
 use lib.ListN.{get_or-eq_default}
 use Rattle.records.specs.declared.state.ThreadState.{ThreadState}
 use Rattle.records.specs.declared.state.ThreadState.TheVariants.{Ready, Running, Blocked, Terminated}
-use Rattle.records.specs.declared.state.StateOption.TheVariants as state
+use Rattle.std.specs.Prelude.{Some, None}
 use Rattle.records.specs.ThreadState.{state_code, states, coded_state, is_state}
 
 pub state_code-small : (s : ThreadState) → state_code s < 4
@@ -17,13 +17,13 @@ state_code-small Running = omega arith
 state_code-small Blocked = omega arith
 state_code-small Terminated = omega arith
 
-pub coded_state_code : (s : ThreadState) → coded_state (state_code s) ≡ state.Some s
+pub coded_state_code : (s : ThreadState) → coded_state (state_code s) ≡ Some s
 coded_state_code Ready = refl
 coded_state_code Running = refl
 coded_state_code Blocked = refl
 coded_state_code Terminated = refl
 
-pub coded_state-past : (n : ℕ) → 4 ≤ n → coded_state n ≡ state.None
+pub coded_state-past : (n : ℕ) → 4 ≤ n → coded_state n ≡ None
 coded_state-past n h = get_or-eq_default states _ h
 
 pub is_state-same : (s : ThreadState) → is_state s s ≡ true
@@ -32,5 +32,5 @@ is_state-same s = eq-eqb (state_code s) (state_code s) refl
 pub is_state_true : (s t : ThreadState) → is_state s t ≡ true → s ≡ t
 is_state_true s t e =
     let codes : state_code s ≡ state_code t = eqb-true (state_code s) (state_code t) e in
-    let same : state.Some s ≡ state.Some t = sym (coded_state_code s) ∙ ap coded_state codes ∙ coded_state_code t in
+    let same : Some s ≡ Some t = sym (coded_state_code s) ∙ ap coded_state codes ∙ coded_state_code t in
     cc

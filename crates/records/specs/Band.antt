@@ -1,9 +1,7 @@
 -- Document 01, "Task record, queues, holders": the codes of the bands, and their slices.
-use Rattle.std.specs.Prelude.{ℕ, ◌<◌, ◌≡◌, List, [], ◌∷◌, get_or}
+use Rattle.std.specs.Prelude.{ℕ, ◌<◌, ◌≡◌, List, [], ◌∷◌, get_or, Option, Some, None}
 use Rattle.records.specs.declared.band.QoSClass.{QoSClass}
 use Rattle.records.specs.declared.band.QoSClass.TheVariants.{UserInteractive, RealTimeIO, Background}
-use Rattle.records.specs.declared.band.BandOption.{BandOption}
-use Rattle.records.specs.declared.band.BandOption.TheVariants.{None, Some}
 
 -- "band 1 (0 UserInteractive, 1 RealTimeIO, 2 Background)"
 abbrev pub band_code : QoSClass → ℕ
@@ -12,10 +10,10 @@ band_code RealTimeIO = 1
 band_code Background = 2
 
 -- the same, read from a byte
-abbrev pub bands : List BandOption
+abbrev pub bands : List (Option QoSClass)
 bands = Some UserInteractive ∷ Some RealTimeIO ∷ Some Background ∷ []
 
-abbrev pub coded_band : ℕ → BandOption
+abbrev pub coded_band : ℕ → Option QoSClass
 coded_band n = get_or bands n None
 
 -- r is the band's code, and so a place among three queues

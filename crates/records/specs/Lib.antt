@@ -2,6 +2,7 @@
 -- the general definitions on lists that all crates use.
 pub mod Lists
 pub mod Band
+pub mod Code
 pub mod Error
 pub mod Mask
 pub mod ThreadState

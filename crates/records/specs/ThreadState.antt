@@ -1,9 +1,7 @@
 -- Document 01, "Task record, queues, holders": the codes of the states.
-use Rattle.std.specs.Prelude.{ℕ, Bool, List, [], ◌∷◌, eqb, get_or}
+use Rattle.std.specs.Prelude.{ℕ, Bool, List, [], ◌∷◌, eqb, get_or, Option, Some, None}
 use Rattle.records.specs.declared.state.ThreadState.{ThreadState}
 use Rattle.records.specs.declared.state.ThreadState.TheVariants.{Ready, Running, Blocked, Terminated}
-use Rattle.records.specs.declared.state.StateOption.{StateOption}
-use Rattle.records.specs.declared.state.StateOption.TheVariants.{None, Some}
 
 -- "state 1 (0 Ready, 1 Running, 2 Blocked, 3 Terminated)"
 abbrev pub state_code : ThreadState → ℕ
@@ -13,10 +11,10 @@ state_code Blocked = 2
 state_code Terminated = 3
 
 -- the same, read from a byte
-abbrev pub states : List StateOption
+abbrev pub states : List (Option ThreadState)
 states = Some Ready ∷ Some Running ∷ Some Blocked ∷ Some Terminated ∷ []
 
-abbrev pub coded_state : ℕ → StateOption
+abbrev pub coded_state : ℕ → Option ThreadState
 coded_state n = get_or states n None
 
 -- the two are one state: they have one code

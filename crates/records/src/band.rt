@@ -1,19 +1,15 @@
 // The three bands, most urgent first, with their codes and their slices.
-ghost use Rattle.std.specs.Prelude.{◌≡◌};
+ghost use Rattle.std.specs.Prelude.{◌≡◌, ok_or};
+ghost use Rattle.records.specs.Code.{unknown_code};
 ghost use Rattle.records.specs.Band.{IsBandCode, coded_band, slice};
 
-#[derive(Clone, Copy)]
+use crate::code::UnknownCode;
+
+#[derive(Clone, Copy, PartialEq, Eq)]
 pub enum QoSClass {
     UserInteractive,
     RealTimeIO,
     Background,
-}
-
-// A band read from a byte: None where no band has that code.
-#[derive(Clone, Copy)]
-pub enum BandOption {
-    None,
-    Some(QoSClass),
 }
 
 impl QoSClass {
@@ -21,22 +17,22 @@ impl QoSClass {
     pub fn code(self) -> u8
         ensures { IsBandCode self result }
     {
-        match self {
-            QoSClass::UserInteractive => 0,
-            QoSClass::RealTimeIO => 1,
-            QoSClass::Background => 2,
-        }
+        self as u8
     }
+}
 
-    // The band that has this code, or None for 3 and above.
-    pub fn from_code(code: u8) -> BandOption
-        ensures { result ≡ coded_band code }
-    {
+// The band that has this code; no band has 3 and above.
+impl TryFrom<u8> for QoSClass {
+    type Error = UnknownCode;
+
+    ghost try_from_gives = { λ code r. r ≡ ok_or (coded_band code) unknown_code };
+
+    fn try_from(code: u8) -> Result<Self, UnknownCode> {
         match code {
-            0 => BandOption::Some(QoSClass::UserInteractive),
-            1 => BandOption::Some(QoSClass::RealTimeIO),
-            2 => BandOption::Some(QoSClass::Background),
-            _ => BandOption::None,
+            0 => Ok(QoSClass::UserInteractive),
+            1 => Ok(QoSClass::RealTimeIO),
+            2 => Ok(QoSClass::Background),
+            _ => Err(UnknownCode),
         }
     }
 }

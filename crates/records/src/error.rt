@@ -2,10 +2,10 @@
 ghost use Rattle.std.specs.Prelude.{◌≡◌};
 ghost use Rattle.records.specs.Error.{error_code};
 
-#[derive(Clone, Copy)]
+#[derive(Clone, Copy, PartialEq, Eq)]
 pub enum SchedError {
     // No slot is free.
-    TableFull,
+    TableFull = 1,
     // 64 entries stand in the queue.
     QueueFull,
     // No such slot, or it is not in use; of a core: no such core, or no holder that the call can take.
@@ -23,13 +23,6 @@ impl SchedError {
     pub fn code(self) -> u8
         ensures { result ≡ error_code self }
     {
-        match self {
-            SchedError::TableFull => 1,
-            SchedError::QueueFull => 2,
-            SchedError::NoSuchTask => 3,
-            SchedError::AlreadyReady => 4,
-            SchedError::AlreadyBlocked => 5,
-            SchedError::NotBlocked => 6,
-        }
+        self as u8
     }
 }

@@ -1,8 +1,9 @@
 // The task record and what it is made of: tids, slots, bands, thread states, refusals and core masks.
 //
-//   ids      Tid, Slot and SlotOption: a tid names a task, a slot is a place in the table
+//   ids      Tid and Slot: a tid names a task, a slot is a place in the table
 //   band     QoSClass, its codes and its time slice
 //   state    ThreadState and its codes
+//   code     UnknownCode: a byte that is no band's or state's code
 //   error    SchedError and its numbers
 //   mask     which cores a mask permits
 //   task     TaskControlBlock: the empty record, a created one, and a record with something changed
@@ -11,17 +12,19 @@
 #![tactic(auto)]
 
 mod band;
+mod code;
 mod error;
 mod ids;
 mod mask;
 mod state;
 mod task;
 
-pub use band::{BandOption, QoSClass, band_slice_us};
+pub use band::{QoSClass, band_slice_us};
+pub use code::UnknownCode;
 pub use error::SchedError;
-pub use ids::{Slot, SlotOption, Tid};
+pub use ids::{Slot, Tid};
 pub use mask::{ALL_CORES, mask_permits, stored_mask};
-pub use state::{StateOption, ThreadState};
+pub use state::ThreadState;
 pub use task::TaskControlBlock;
 
 // How many tasks the table holds: slots 0 to 63.

@@ -1,8 +1,11 @@
 // What a task is doing, with the codes of the record's byte.
-ghost use Rattle.std.specs.Prelude.{◌≡◌};
+ghost use Rattle.std.specs.Prelude.{◌≡◌, ok_or};
+ghost use Rattle.records.specs.Code.{unknown_code};
 ghost use Rattle.records.specs.ThreadState.{state_code, coded_state, is_state};
 
-#[derive(Clone, Copy)]
+use crate::code::UnknownCode;
+
+#[derive(Clone, Copy, PartialEq, Eq)]
 pub enum ThreadState {
     // Waits in its band's queue.
     Ready,
@@ -14,43 +17,34 @@ pub enum ThreadState {
     Terminated,
 }
 
-// A state read from a byte: None where no state has that code.
-#[derive(Clone, Copy)]
-pub enum StateOption {
-    None,
-    Some(ThreadState),
-}
-
 impl ThreadState {
-    // The state's code, 0 to 3.
+    // The state's code, 0 to 3: its byte in a record.
     pub fn code(self) -> u8
         ensures { result ≡ state_code self }
     {
-        match self {
-            ThreadState::Ready => 0,
-            ThreadState::Running => 1,
-            ThreadState::Blocked => 2,
-            ThreadState::Terminated => 3,
-        }
+        self as u8
     }
 
-    // The state that has this code, or None for 4 and above.
-    pub fn from_code(code: u8) -> StateOption
-        ensures { result ≡ coded_state code }
-    {
-        match code {
-            0 => StateOption::Some(ThreadState::Ready),
-            1 => StateOption::Some(ThreadState::Running),
-            2 => StateOption::Some(ThreadState::Blocked),
-            3 => StateOption::Some(ThreadState::Terminated),
-            _ => StateOption::None,
-        }
-    }
-
-    // Whether the two are the same state: the Rust's ==.
-    pub fn is(self, other: ThreadState) -> bool
+    pub fn is_it(self, other: ThreadState) -> bool
         ensures { result ≡ is_state self other }
     {
-        self.code() == other.code()
+        self == other
+    }
+}
+
+// The state that has this code; no state has 4 and above.
+impl TryFrom<u8> for ThreadState {
+    type Error = UnknownCode;
+
+    ghost try_from_gives = { λ code r. r ≡ ok_or (coded_state code) unknown_code };
+
+    fn try_from(code: u8) -> Result<Self, UnknownCode> {
+        match code {
+            0 => Ok(ThreadState::Ready),
+            1 => Ok(ThreadState::Running),
+            2 => Ok(ThreadState::Blocked),
+            3 => Ok(ThreadState::Terminated),
+            _ => Err(UnknownCode),
+        }
     }
 }

@@ -9,7 +9,7 @@ use crate::mask::{ALL_CORES, stored_mask};
 use crate::state::ThreadState;
 
 // The small fields stand together, so that a record takes 48 bytes and not 56: a state is copied whole at each call by value.
-#[derive(Clone, Copy)]
+#[derive(Clone, Copy, PartialEq, Eq)]
 pub struct TaskControlBlock {
     pub tid: Tid,
     pub qos: QoSClass,
@@ -74,61 +74,60 @@ impl TaskControlBlock {
     pub fn with_state(self, state: ThreadState) -> Self
         ensures { result ≡ with_state self state }
     {
-        let tid = self.tid;
-        let qos = self.qos;
-        TaskControlBlock {
-            tid,
-            qos,
-            state,
-            context_handle: self.context_handle,
-            cr3: self.cr3,
-            rsp0: self.rsp0,
-            cpu_affinity: self.cpu_affinity,
-            slice_budget_us: self.slice_budget_us,
-            consumed_slice_us: self.consumed_slice_us,
-            in_use: self.in_use,
-        }
+        TaskControlBlock { state, ..self }
     }
 
     // The record with another mask, of which 0 is stored as all ones.
-    pub fn with_affinity(mut self, mask: u64) -> Self
+    pub fn with_affinity(self, mask: u64) -> Self
         ensures { result ≡ with_mask self (stored_mask mask) }
     {
-        self.cpu_affinity = stored_mask(mask);
-        self
+        TaskControlBlock {
+            cpu_affinity: stored_mask(mask),
+            ..self
+        }
     }
 
     // The record with another consumed time.
-    pub fn with_consumed(mut self, consumed_us: u32) -> Self
+    pub fn with_consumed(self, consumed_us: u32) -> Self
         ensures { result ≡ with_consumed self consumed_us }
     {
-        self.consumed_slice_us = consumed_us;
-        self
+        TaskControlBlock {
+            consumed_slice_us: consumed_us,
+            ..self
+        }
     }
 
     // What terminate leaves: Terminated and not in use; the other fields stay.
-    pub fn terminated(mut self) -> Self
+    pub fn terminated(self) -> Self
         ensures { result ≡ terminated self }
     {
-        self.in_use = false;
-        self.with_state(ThreadState::Terminated)
+        TaskControlBlock {
+            state: ThreadState::Terminated,
+            in_use: false,
+            ..self
+        }
     }
 
     // What block leaves: Blocked, and nothing consumed.
-    pub fn blocked(mut self) -> Self
+    pub fn blocked(self) -> Self
         ensures { result ≡ blocked self }
     {
-        self.consumed_slice_us = 0;
-        self.with_state(ThreadState::Blocked)
+        TaskControlBlock {
+            state: ThreadState::Blocked,
+            consumed_slice_us: 0,
+            ..self
+        }
     }
 
     // What a pick leaves: Running, with its band's whole slice before it.
-    pub fn picked(mut self) -> Self
+    pub fn picked(self) -> Self
         ensures { result ≡ picked self }
     {
-        let qos = self.qos;
-        self.slice_budget_us = band_slice_us(qos);
-        self.consumed_slice_us = 0;
-        self.with_state(ThreadState::Running)
+        TaskControlBlock {
+            state: ThreadState::Running,
+            slice_budget_us: band_slice_us(self.qos),
+            consumed_slice_us: 0,
+            ..self
+        }
     }
 }

@@ -3,17 +3,10 @@ use Rattle.std.specs.Prelude.{◌≡◌, ℕ, ◌+◌, ◌%◌, ◌^◌, ◌<◌
 use Rattle.scheduler.specs.Scheduler.{abs}
 use Rattle.rules.specs.State.{new_state}
 use Rattle.frames.specs.declared.stream.Fed.{Fed}
-use Rattle.frames.specs.Stream.{held_in, ValidStream, Feeds}
+use Rattle.frames.specs.Stream.{held_in, Feeds}
+use Rattle.replay.specs.declared.Counts.{Counts}
 use Rattle.replay.specs.declared.Replay.{Replay}
 use Rattle.replay.specs.Comparing.{as_stored}
-
-pub record Counts : Type 0 where
-  pub lists : ℕ
-  pub calls : ℕ
-  pub differences : ℕ
-
-abbrev pub counts_in : Replay → Counts
-counts_in r = record { lists = r.lists; calls = r.calls; differences = r.differences }
 
 -- one more, in 64 bits
 abbrev pub more : ℕ → ℕ
@@ -39,10 +32,9 @@ with_line waiting answer line k =
 
 -- the answer that waits is counted, and waits no longer
 pub record Compares (before : Replay) (stored answer : List ℕ) (r : Replay) : Type 0 where
-  pub valid : ValidStream r.stream
   pub stream_is : r.stream ≡ before.stream
   pub none_waits : r.waiting ≡ 0
-  pub counts_are : counts_in r ≡ with_answer (as_stored (take before.waiting answer) stored) (counts_in before)
+  pub counts_are : r.counts ≡ with_answer (as_stored (take before.waiting answer) stored) before.counts
 
 -- a list begins with a new scheduler
 pub record BeginsList (r : Replay) : Type 0 where
@@ -65,7 +57,6 @@ pub data Goes (before : Replay) (line answer after : List ℕ) (r : Replay) : Ty
 
 -- a line is counted, and does what its kind does
 pub record Replays (before : Replay) (line answer after : List ℕ) (r : Replay) : Type 0 where
-  pub valid : ValidStream r.stream
   pub within : r.waiting ≤ length after
-  pub counts_are : counts_in r ≡ with_line before.waiting answer line (counts_in before)
+  pub counts_are : r.counts ≡ with_line before.waiting answer line before.counts
   pub goes : Goes before line answer after r

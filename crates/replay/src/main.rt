@@ -5,19 +5,15 @@
 // that the Rust has no part in. oracle/README.md says how the lists were made. The last line counts what was compared.
 #![tactic(auto)]
 
-ghost use Rattle.std.specs.Prelude.{◌≡◌, ◌≤◌, length};
-ghost use Rattle.frames.specs.Stream.{ValidStream};
-ghost use Rattle.replay.specs.Tallies.{is_name, Compares, Replays};
+ghost use Rattle.std.specs.Prelude.{◌≡◌, ◌≤◌, length, IfOk};
+ghost use Rattle.replay.specs.Tallies.{is_name, with_list, BeginsList, Compares, Replays};
 ghost use Rattle.replay.specs.Comparing.{as_stored};
 
 use frames::Stream;
 use scheduler::QoSScheduler;
-
-// The file descriptor of standard input.
-const STDIN_FILENO: i32 = 0;
-
-// The file descriptor of standard output.
-const STDOUT_FILENO: i32 = 1;
+use std::io;
+use std::io::{BufReader, Write};
+use text::read_line;
 
 // No stored line is longer, and no answer's.
 const STORED_MAX: usize = 256;
@@ -32,154 +28,129 @@ const ANY: u8 = b'.';
 #[derive(Clone, Copy)]
 struct Replay {
     stream: Stream,
-    // How many bytes the last frame's answer has that waits for the stored one; 0 where a frame or a name comes next.
+    // How many bytes the last frame's answer has that waits for the stored one; 0 where a frame or a name comes next. A number and
+    // no Option, as the stream says how many it wrote: 0 where a line is not at its end.
     waiting: usize,
+    counts: Counts,
+}
+
+// What was counted.
+#[derive(Clone, Copy)]
+struct Counts {
     lists: u64,
     calls: u64,
     differences: u64,
 }
 
-fn main() {
+fn main(rt: HostRuntime) -> io::Result<()> {
+    let mut input = BufReader::new(rt.alloc(), rt.reader())?;
     let mut replay = Replay {
         stream: Stream::new(QoSScheduler::new()),
         waiting: 0,
-        lists: 0,
-        calls: 0,
-        differences: 0,
+        counts: Counts {
+            lists: 0,
+            calls: 0,
+            differences: 0,
+        },
     };
     let mut line = [0u8; STORED_MAX];
     let mut answer = [0u8; STORED_MAX];
-    // counted down, since a proved loop has to end and nothing says that the input does
-    let mut turns = u64::MAX;
-    while 0 < turns {
-        turns -= 1;
-        let n = read_line(&mut line);
+    // a bound, since a proved loop has to end and nothing says that the input does
+    for _ in 0..u64::MAX {
+        let n = read_line(&mut input, &mut line)?;
         if n == 0 {
             break;
         }
-        let next = replay_line(replay, &line[..n], &mut answer);
+        let next = replay_line(&rt, replay, &line[..n], &mut answer)?;
         replay = next;
     }
-    report(replay.lists, replay.calls, replay.differences);
-}
-
-// Reads a line with its newline, and says how long it is; 0 at the end of the input.
-fn read_line(line: &mut [u8]) -> usize
-    ensures { result ≤ length line.new }
-{
-    let mut n = 0;
-    while n < line.len() {
-        let behind = n + 1;
-        if io::read_full(STDIN_FILENO, &mut line[n..behind]) == 0 {
-            break;
-        }
-        n = behind;
-        if line[n - 1] == b'\n' {
-            break;
-        }
-    }
-    n
+    report(&rt, replay.counts)
 }
 
 // One line, with its newline: the stored answer to the last frame, or a list's name, or a frame.
-fn replay_line(replay: Replay, line: &[u8], answer: &mut [u8]) -> Replay
-    requires { ValidStream replay.stream × (replay.waiting ≤ length answer.old) }
-    ensures { Replays replay line.now answer.old answer.new result }
+fn replay_line(
+    rt: &impl Print,
+    replay: Replay,
+    line: &[u8],
+    answer: &mut [u8],
+) -> io::Result<Replay>
+    requires { replay.waiting ≤ length answer.old }
+    ensures { IfOk result (λ r. Replays replay line.now answer.old answer.new r) }
 {
     if 0 < replay.waiting {
-        return compared(replay, line, answer);
+        return compared(rt, replay, line, answer);
     }
-    if begins_list(line) {
-        return Replay {
-            stream: Stream::new(QoSScheduler::new()),
-            waiting: 0,
-            lists: std::num::wrapping_add_u64(replay.lists, 1),
-            calls: replay.calls,
-            differences: replay.differences,
-        };
+    if is_name(line) {
+        return Ok(list_begun(replay.counts));
     }
-    let stream = replay.stream;
-    let fed = stream.feed(line, false, answer);
-    let next = fed.stream;
-    Replay {
-        stream: next,
+    let fed = replay.stream.feed(line, false, answer);
+    Ok(Replay {
+        stream: fed.stream,
         waiting: fed.written,
-        lists: replay.lists,
-        calls: replay.calls,
-        differences: replay.differences,
-    }
+        counts: replay.counts,
+    })
 }
 
 // Whether a line is a list's name.
-fn begins_list(line: &[u8]) -> bool
+fn is_name(line: &[u8]) -> bool
     ensures { result ≡ is_name line.now }
 {
-    if line.len() == 0 {
-        return false;
+    line.first() == Some(&NAME)
+}
+
+// A list begins with a new scheduler.
+fn list_begun(counts: Counts) -> Replay
+    ensures begins { BeginsList result }
+    ensures counts { result.counts ≡ with_list counts }
+{
+    Replay {
+        stream: Stream::new(QoSScheduler::new()),
+        waiting: 0,
+        counts: Counts {
+            lists: counts.lists.wrapping_add(1),
+            ..counts
+        },
     }
-    line[0] == NAME
 }
 
 // The answer that waits, held against the stored one; a difference is printed with both.
-fn compared(replay: Replay, stored: &[u8], answer: &[u8]) -> Replay
-    requires { ValidStream replay.stream × (replay.waiting ≤ length answer.now) }
-    ensures { Compares replay stored.now answer.now result }
+fn compared(rt: &impl Print, replay: Replay, stored: &[u8], answer: &[u8]) -> io::Result<Replay>
+    requires { replay.waiting ≤ length answer.now }
+    ensures { IfOk result (λ r. Compares replay stored.now answer.now r) }
 {
-    let waiting = replay.waiting;
-    let stream = replay.stream;
-    let calls = std::num::wrapping_add_u64(replay.calls, 1);
-    let mut differences = replay.differences;
-    if !is_as_stored(&answer[..waiting], stored) {
-        differences = std::num::wrapping_add_u64(differences, 1);
-        show_difference(replay.lists, calls, stored, &answer[..waiting]);
+    let found = &answer[..replay.waiting];
+    let mut counts = replay.counts;
+    counts.calls = counts.calls.wrapping_add(1);
+    if !is_as_stored(found, stored) {
+        counts.differences = counts.differences.wrapping_add(1);
+        show_difference(rt, counts, stored, found)?;
     }
-    Replay {
-        stream,
+    Ok(Replay {
+        stream: replay.stream,
         waiting: 0,
-        lists: replay.lists,
-        calls,
-        differences,
-    }
+        counts,
+    })
 }
 
 // Whether an answer is the stored one, byte for byte but where that leaves a byte open.
 fn is_as_stored(answer: &[u8], stored: &[u8]) -> bool
     ensures { result ≡ as_stored answer.now stored.now }
 {
-    if answer.len() != stored.len() {
-        return false;
-    }
-    let mut i = 0;
-    while i < answer.len() {
-        if answer[i] != stored[i] && stored[i] != ANY {
-            return false;
-        }
-        i += 1;
-    }
-    true
+    answer.len() == stored.len() && answer.iter().zip(stored).all(|(a, s)| a == s || *s == ANY)
 }
 
 // The list and the call, both counted from 1, and the two answers, which end in newlines.
-fn show_difference(lists: u64, calls: u64, stored: &[u8], found: &[u8]) {
-    print(b"list ");
-    io::print_decimal(STDOUT_FILENO, lists);
-    print(b", call ");
-    io::print_decimal(STDOUT_FILENO, calls);
-    print(b": stored ");
-    print(stored);
-    print(b"found ");
-    print(found);
+fn show_difference(rt: &impl Print, counts: Counts, stored: &[u8], found: &[u8]) -> io::Result<()> {
+    print!(rt; "list {}, call {}: stored ", counts.lists, counts.calls)?;
+    let mut out = io::writer(rt);
+    out.write_all(stored)?;
+    out.write_all(b"found ")?;
+    out.write_all(found)
 }
 
-fn report(lists: u64, calls: u64, differences: u64) {
-    io::print_decimal(STDOUT_FILENO, lists);
-    print(b" lists, ");
-    io::print_decimal(STDOUT_FILENO, calls);
-    print(b" calls, ");
-    io::print_decimal(STDOUT_FILENO, differences);
-    print(b" differences\n");
-}
-
-fn print(text: &[u8]) {
-    io::write_all(STDOUT_FILENO, text);
+fn report(rt: &impl Print, counts: Counts) -> io::Result<()> {
+    println!(rt;
+        "{} lists, {} calls, {} differences",
+        counts.lists, counts.calls, counts.differences
+    )
 }

@@ -5,13 +5,14 @@ use mathlib.Core.Bool.{false}
 use mathlib.Core.List.{List, [], ◌∷◌}
 use Prim.Native.Nat.{ℕ, ◌<◌}
 use native.Mathlib.Omega.{arith}
+use Rattle.std.specs.Prelude.{Option}
+use Rattle.rules.specs.declared.answer.Pick.{Pick}
 use Rattle.records.specs.declared.band.QoSClass.{QoSClass}
 use Rattle.records.specs.declared.state.ThreadState.TheVariants.{Ready}
 use Rattle.records.specs.ThreadState.{is_state}
 use Rattle.records.specs.Lists.{every, every_below, count}
 use Rattle.queue.specs.Entries.{full}
 use Rattle.rules.specs.declared.call.Call.{Call}
-use Rattle.rules.specs.declared.answer.PickOption.{PickOption}
 use Rattle.rules.specs.State.{State, new_state, task, queue}
 use Rattle.rules.specs.Accepted.{Accepted, accepts}
 use Rattle.rules.specs.Picking.{rule_p}
@@ -29,7 +30,7 @@ new-accepted = accepts_sound new_state refl
 
 -- ---- every call keeps acceptance
 
-invariant_by : {call : Call} {s : State} {p : PickOption} {end : State} {r : Reach} → Course call s p end r → Invariant end
+invariant_by : {call : Call} {s : State} {p : Option Pick} {end : State} {r : Reach} → Course call s p end r → Invariant end
 invariant_by (quiet no-pick f) = f.invariant
 invariant_by (reaching t c low on-it f p-is end_is) = subst Invariant (sym end_is) (P-invariant t f.invariant c low)
 
@@ -55,11 +56,11 @@ room_in_queue s a = never_full s (accepted-invariant s a)
 
 -- ---- the pick carried is P's
 
-carried_by : {call : Call} {s : State} {p : PickOption} {end : State} {r : Reach} → Course call s p end r → p ≡ taken_by r
+carried_by : {call : Call} {s : State} {p : Option Pick} {end : State} {r : Reach} → Course call s p end r → p ≡ taken_by r
 carried_by (quiet no-pick f) = no-pick
 carried_by (reaching t c low on-it f p-is end_is) = p-is
 
-ended_by : {call : Call} {s : State} {p : PickOption} {end : State} {r : Reach} → Course call s p end r → (t : State) (c : ℕ) →
+ended_by : {call : Call} {s : State} {p : Option Pick} {end : State} {r : Reach} → Course call s p end r → (t : State) (c : ℕ) →
     r ≡ reaches t c → end ≡ (rule_p c t).state
 ended_by (quiet no-pick f) t c is = let no : ◌≡◌ {A = ℕ} 0 1 = cc in absurd (omega arith)
 ended_by (reaching u d low on-it f p-is end_is) t c is =

@@ -6,15 +6,14 @@ use Prim.Native.Nat.{ℕ, ◌<◌}
 use native.Mathlib.Omega.{arith}
 use borrow.Author.Tests.{leb-false, lt-leb}
 use lib.Dec.{leb}
+use Rattle.std.specs.Prelude.{Option, None, Some}
+use Rattle.rules.specs.declared.answer.Pick.{Pick}
 use Rattle.records.specs.declared.error.SchedError.{SchedError}
 use Rattle.records.specs.declared.ids.Slot.{Slot}
-use Rattle.records.specs.declared.ids.SlotOption.TheVariants as slot
 use Rattle.records.specs.declared.state.ThreadState.TheVariants.{Running}
 use Rattle.records.specs.Band.{slice}
 use Rattle.records.specs.Task.{with_consumed}
 use Rattle.records.proofs.Cases.{neither}
-use Rattle.rules.specs.declared.answer.PickOption.{PickOption}
-use Rattle.rules.specs.declared.answer.PickOption.TheVariants as pick
 use Rattle.rules.specs.declared.answer.Value.{Value}
 use Rattle.rules.specs.declared.call.Call.{Call}
 use Rattle.rules.specs.Accepted.{MayHold}
@@ -37,9 +36,9 @@ abbrev pub Untouched : Call → ℕ → Type 0
 Untouched call x = concern call ≡ changes x → ⊥
 
 -- from s, with this pick, to this end
-pub data Course (call : Call) (s : State) (p : PickOption) (end : State) : Reach → Type 0 where
+pub data Course (call : Call) (s : State) (p : Option Pick) (end : State) : Reach → Type 0 where
   -- P is not reached: nobody is picked, and the change is harmless
-  quiet : p ≡ pick.None → Harmless (Untouched call) s end → Course call s p end unreached
+  quiet : p ≡ None → Harmless (Untouched call) s end → Course call s p end unreached
   -- P is reached, on the core that the call names
   reaching : (t : State) (c : ℕ) → c < 64 → concern call ≡ names c → Harmless (Untouched call) s t → p ≡ (rule_p c t).pick →
       end ≡ (rule_p c t).state → Course call s p end (reaches t c)
@@ -53,7 +52,7 @@ apart i x other same = other (ap changes (sym same))
 
 module _ (s : State) (k : Invariant s) where
   -- no queue is full for a slot to be queued, and holders are in use
-  refused_course : {call : Call} {e : SchedError} {r : Reach} → Refusal s e r → Course call s pick.None s r
+  refused_course : {call : Call} {e : SchedError} {r : Reach} → Refusal s e r → Course call s None s r
   refused_course (by_table other) = quiet refl (stay s k)
   refused_course (by_full_queue i here idle none_left) =
       absurd (true≢false (sym none_left ∙ never_full s k (task s i).qos i (present s i here).0 idle))
@@ -89,7 +88,7 @@ module _ (s : State) (k : Invariant s) where
         (yields s k h.0 _ low (holder_is s k _ h is).used (idle_in (task s h.0) Running runs refl), refl)
 
     -- the holder stays: its consumed time is still below its slice
-    kept_harmless : (c elapsed : ℕ) (h : Slot) → holder_of s c ≡ slot.Some h → slice_over h.0 elapsed c (gain elapsed s) ≡ false →
+    kept_harmless : (c elapsed : ℕ) (h : Slot) → holder_of s c ≡ Some h → slice_over h.0 elapsed c (gain elapsed s) ≡ false →
         Harmless safe s (with_task (gain elapsed s) h.0 (with_consumed (task s h.0) (charged h.0 elapsed s)))
     kept_harmless c elapsed h is on =
         let u : State = gain elapsed s in

@@ -10,10 +10,10 @@ use borrow.Author.Tests.{leb-false, lt-leb, eqb-false, not-true, not-false}
 use lib.Dec.{leb, eqb}
 use lib.ListN.{get_or, length-map, get_or-map}
 use lib.Seq.{get_or-set_same}
+use Rattle.std.specs.Prelude.{None, Some}
 use Rattle.records.specs.declared.band.QoSClass.{QoSClass}
 use Rattle.records.specs.declared.band.QoSClass.TheVariants.{UserInteractive, RealTimeIO, Background}
 use Rattle.records.specs.declared.ids.Slot.{Slot}
-use Rattle.records.specs.declared.ids.SlotOption.TheVariants as slot
 use Rattle.records.specs.declared.ids.Tid.{Tid}
 use Rattle.records.specs.declared.state.ThreadState.{ThreadState}
 use Rattle.records.specs.declared.state.ThreadState.TheVariants.{Ready, Running, Blocked, Terminated}
@@ -72,9 +72,9 @@ switches-is h elapsed c s = ap (λ (b : Bool). leb (task s h).slice_budget_us (c
 -- ---- facts about the state that a call finds
 
 -- a core's holder, where there is one
-pub held-slot : (s : State) (c : ℕ) (h : Slot) → holder_of s c ≡ slot.Some h → (holder s c ≡ h.0) × (eqb (holder s c) none_byte ≡ false)
+pub held-slot : (s : State) (c : ℕ) (h : Slot) → holder_of s c ≡ Some h → (holder s c ≡ h.0) × (eqb (holder s c) none_byte ≡ false)
 held-slot s c h =
-    split (λ (b : Bool). cond b slot.None (slot.Some (record { 0 = holder s c })) ≡ slot.Some h → (holder s c ≡ h.0) × (b ≡ false)) (eqb (holder s c) none_byte)
+    split (λ (b : Bool). cond b None (Some (record { 0 = holder s c })) ≡ Some h → (holder s c ≡ h.0) × (b ≡ false)) (eqb (holder s c) none_byte)
     (λ _ e. let no : ◌≡◌ {A = ℕ} 0 1 = cc in absurd (omega arith))
     (λ _ e. let same : ◌≡◌ {A = Slot} (record { 0 = holder s c }) h = cc in (ap (λ (j : Slot). j.0) same, refl))
 
@@ -100,7 +100,7 @@ module _ (s : State) (k : Invariant s) where
   not_none c (inl none) some = absurd (eqb-false (holder s c) none_byte some none)
   not_none c (inr m) some = m
 
-  pub holder_is : (c : ℕ) (h : Slot) → holder_of s c ≡ slot.Some h → MayHold (task s h.0)
+  pub holder_is : (c : ℕ) (h : Slot) → holder_of s c ≡ Some h → MayHold (task s h.0)
   holder_is c h is = subst (λ (j : ℕ). MayHold (task s j)) (held-slot s c h is).0 (not_none c (k.held c) (held-slot s c h is).1)
 
   -- an enqueue of a slot in use that is not Ready is not refused

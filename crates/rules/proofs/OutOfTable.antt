@@ -4,8 +4,7 @@ use mathlib.Core.Path.{◌≡◌}
 use mathlib.Core.Bool.{false}
 use Prim.Native.Nat.{ℕ, ◌≤◌}
 use borrow.Author.Tests.{le-leb}
-use Rattle.rules.specs.declared.answer.CoreOption.TheVariants as core
-use Rattle.rules.specs.declared.answer.TaskOption.TheVariants as task
+use Rattle.std.specs.Prelude.{None}
 use Rattle.rules.specs.State.{State}
 use Rattle.rules.specs.Queries.{can_run_on_core, task_at, current_task_on_cpu, core_of}
 
@@ -14,14 +13,14 @@ module _ (n : ℕ) (past : 64 ≤ n) (s : State) where
   unfolding can_run_on_core
   no_slot_runs c = rw (le-leb 64 n past)
 
-  pub no_slot_record : task_at n s ≡ task.None
+  pub no_slot_record : task_at n s ≡ None
   unfolding task_at
   no_slot_record = rw (le-leb 64 n past)
 
-  pub no_slot_held : core_of n s ≡ core.None
+  pub no_slot_held : core_of n s ≡ None
   unfolding core_of
   no_slot_held = rw (le-leb 64 n past)
 
-  pub no_core_record : current_task_on_cpu n s ≡ task.None
+  pub no_core_record : current_task_on_cpu n s ≡ None
   unfolding current_task_on_cpu
   no_core_record = rw (le-leb 64 n past)

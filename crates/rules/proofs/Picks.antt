@@ -10,10 +10,10 @@ use native.Mathlib.Omega.{arith}
 use borrow.Author.Tests.{le-leb, lt-leb}
 use lib.ListN.{length, get_or}
 use lib.Seq.{get_or-set_same, get_or-append_seam}
+use Rattle.std.specs.Prelude.{Option, None, Some}
+use Rattle.records.specs.declared.ids.Slot.{Slot}
 use Rattle.records.specs.declared.band.QoSClass.{QoSClass}
 use Rattle.records.specs.declared.band.QoSClass.TheVariants.{UserInteractive, RealTimeIO, Background}
-use Rattle.records.specs.declared.ids.SlotOption.{SlotOption}
-use Rattle.records.specs.declared.ids.SlotOption.TheVariants as slot
 use Rattle.records.specs.declared.state.ThreadState.{ThreadState}
 use Rattle.records.specs.declared.state.ThreadState.TheVariants.{Terminated}
 use Rattle.records.specs.Band.{band_code}
@@ -26,8 +26,6 @@ use Rattle.queue.specs.Entries.{taken_at}
 use Rattle.queue.proofs.Counts.{count_one, count_other, count-taken, count-entry}
 use Rattle.queue.proofs.Entries.{entry_at-some, entry_at-none, taken_at-cut}
 use Rattle.rules.specs.declared.answer.Pick.{Pick}
-use Rattle.rules.specs.declared.answer.PickOption.{PickOption}
-use Rattle.rules.specs.declared.answer.PickOption.TheVariants as pick
 use Rattle.rules.specs.State.{State, none_byte, band_order, task, with_band, queue, with_task}
 use Rattle.rules.specs.Accepted.{ReadyOf, MayHold}
 use Rattle.rules.specs.Outcome.{Chosen}
@@ -40,12 +38,12 @@ use Rattle.rules.proofs.Parts.{each-queue}
 
 -- ---- whom P chooses
 
-pub data Choice (s : State) (core : ℕ) : PickOption → Type 0 where
+pub data Choice (s : State) (core : ℕ) : Option Pick → Type 0 where
   -- the first permitted entry of its band, where no earlier band has one
-  taken : (p : Pick) → first_permitted s core p.band ≡ slot.Some p.slot →
-      ((b : QoSClass) → band_code b < band_code p.band → first_permitted s core b ≡ slot.None) → Choice s core (pick.Some p)
+  taken : (p : Pick) → first_permitted s core p.band ≡ Some p.slot →
+      ((b : QoSClass) → band_code b < band_code p.band → first_permitted s core b ≡ None) → Choice s core (Some p)
   -- no band has one
-  none : ((b : QoSClass) → first_permitted s core b ≡ slot.None) → Choice s core pick.None
+  none : ((b : QoSClass) → first_permitted s core b ≡ None) → Choice s core None
 
 before-first : (P : QoSClass → Type 0) (b : QoSClass) → band_code b < 0 → P b
 before-first P b h = absurd (omega arith)
@@ -70,25 +68,25 @@ unfolding choice
 choice-is s core = go (first_permitted s core UserInteractive) (first_permitted s core RealTimeIO) (first_permitted s core Background) refl refl refl
   where
     Empty : QoSClass → Type 0
-    Empty b = first_permitted s core b ≡ slot.None
+    Empty b = first_permitted s core b ≡ None
 
-    go : (u r b : SlotOption) → first_permitted s core UserInteractive ≡ u → first_permitted s core RealTimeIO ≡ r →
+    go : (u r b : Option Slot) → first_permitted s core UserInteractive ≡ u → first_permitted s core RealTimeIO ≡ r →
         first_permitted s core Background ≡ b →
-        Choice s core (found_in UserInteractive u (found_in RealTimeIO r (found_in Background b pick.None)))
-    go (slot.Some e) r b is-u is-r is_b = taken (record { slot = e; band = UserInteractive }) is-u (before-first Empty)
-    go slot.None (slot.Some e) b is-u is-r is_b = taken (record { slot = e; band = RealTimeIO }) is-r (before-second Empty is-u)
-    go slot.None slot.None (slot.Some e) is-u is-r is_b = taken (record { slot = e; band = Background }) is_b (before-third Empty is-u is-r)
-    go slot.None slot.None slot.None is-u is-r is_b = none (every-band Empty is-u is-r is_b)
+        Choice s core (found_in UserInteractive u (found_in RealTimeIO r (found_in Background b None)))
+    go (Some e) r b is-u is-r is_b = taken (record { slot = e; band = UserInteractive }) is-u (before-first Empty)
+    go None (Some e) b is-u is-r is_b = taken (record { slot = e; band = RealTimeIO }) is-r (before-second Empty is-u)
+    go None None (Some e) is-u is-r is_b = taken (record { slot = e; band = Background }) is_b (before-third Empty is-u is-r)
+    go None None None is-u is-r is_b = none (every-band Empty is-u is-r is_b)
 
 -- a permitted entry that waits is not overlooked
 pub not_overlooked : (s : State) (core : ℕ) (b : QoSClass) (x : ℕ) → permitted s core x ≡ true → 1 ≤ count x (queue s b) →
-    first_permitted s core b ≡ slot.None → ⊥
+    first_permitted s core b ≡ None → ⊥
 not_overlooked s core b x may there missed =
     absurd (omega (arith, first_place-found (permitted s core) (queue s b) x may there, entry_at-none (place_for s core b) (queue s b) missed))
 
 -- ---- what a pick leaves
 
-module _ (s : State) (k : Invariant s) (core : ℕ) (p : Pick) (is : first_permitted s core p.band ≡ slot.Some p.slot) where
+module _ (s : State) (k : Invariant s) (core : ℕ) (p : Pick) (is : first_permitted s core p.band ≡ Some p.slot) where
   abbrev i : ℕ
   i = p.slot.0
 
@@ -152,11 +150,11 @@ module _ (s : State) (k : Invariant s) (core : ℕ) (p : Pick) (is : first_permi
   })
 
   -- the pick becomes the core's holder
-  pub pick_held : core < 64 → Harmless (λ (x : ℕ). (x ≡ i → ⊥) × (permitted s core x ≡ true)) s (after_pick s core (pick.Some p)).state
+  pub pick_held : core < 64 → Harmless (λ (x : ℕ). (x ≡ i → ⊥) × (permitted s core x ≡ true)) s (after_pick s core (Some p)).state
   pick_held below =
       let t : State = with_task (leaves s core p.band) i (picked (task s i)) in
       let stored : task t i ≡ picked (task s i) = get_or-set_same s.tasks i (picked (task s i)) empty_record (omega (arith, k.slots, pick_low)) in
-      then s t (after_pick s core (pick.Some p)).state pick_harmless
+      then s t (after_pick s core (Some p)).state pick_harmless
       (hold t pick_harmless.invariant core i below (inr (subst MayHold (sym stored) (record { used = used; budget_is = refl }))))
 
 -- ---- P
@@ -174,16 +172,16 @@ P-below s core low = rw (lt-leb 64 core low)
 pub P-invariant : (s : State) → Invariant s → (core : ℕ) → core < 64 → Invariant (rule_p core s).state
 P-invariant s k core low = subst (λ (c : Chosen). Invariant c.state) (sym (P-below s core low)) (after (choice-is s core))
   where
-    after : {o : PickOption} → Choice s core o → Invariant (after_pick s core o).state
+    after : {o : Option Pick} → Choice s core o → Invariant (after_pick s core o).state
     after (taken p is earlier) = (pick_held s k core p is low).invariant
     after (none empty) = (hold {safe = λ (x : ℕ). ⊥} s k core none_byte low (inl refl)).invariant
 
 -- "None is answered only then": no queue has a permitted entry
-pub P-none : (s : State) (core : ℕ) → core < 64 → (rule_p core s).pick ≡ pick.None → (b : QoSClass) (x : ℕ) → 1 ≤ count x (queue s b) →
+pub P-none : (s : State) (core : ℕ) → core < 64 → (rule_p core s).pick ≡ None → (b : QoSClass) (x : ℕ) → 1 ≤ count x (queue s b) →
     permitted s core x ≡ false
 P-none s core low e = after (choice-is s core) (ap (λ (c : Chosen). c.pick) (sym (P-below s core low)) ∙ e)
   where
-    after : {o : PickOption} → Choice s core o → (after_pick s core o).pick ≡ pick.None → (b : QoSClass) (x : ℕ) → 1 ≤ count x (queue s b) →
+    after : {o : Option Pick} → Choice s core o → (after_pick s core o).pick ≡ None → (b : QoSClass) (x : ℕ) → 1 ≤ count x (queue s b) →
         permitted s core x ≡ false
     after (taken p is earlier) e b x there = let no : ◌≡◌ {A = ℕ} 0 1 = cc in absurd (omega arith)
     after (none empty) e b x there =

@@ -4,10 +4,10 @@ use mathlib.Core.Path.{◌≡◌, refl, sym, ◌∙◌, subst}
 use mathlib.Core.Bool.{true≢false}
 use Prim.Native.Nat.{ℕ}
 use native.Mathlib.Omega.{arith}
+use Rattle.std.specs.Prelude.{Result, Ok, Err}
 use Rattle.records.specs.declared.error.SchedError.{SchedError}
 use Rattle.records.specs.declared.error.SchedError.TheVariants.{QueueFull}
 use Rattle.records.specs.Error.{error_code}
-use Rattle.rules.specs.declared.answer.Status.TheVariants.{Done, Refused}
 use Rattle.rules.specs.declared.call.Call.{Call}
 use Rattle.rules.specs.Accepted.{Accepted}
 use Rattle.rules.specs.Outcome.{Outcome, refused}
@@ -19,11 +19,11 @@ use Rattle.rules.proofs.Effects.{present}
 use Rattle.rules.proofs.Ways.{Refusal, by_table, by_full_queue, by_free_holder, Way, refuses, tells, does, keeps, comes, way}
 
 -- what is done is not refused
-not_done : {A : Type 0} {e : SchedError} → Done ≡ Refused e → A
+not_done : {A : Type 0} {e : SchedError} → ◌≡◌ {A = Result Unit SchedError} (Ok tt) (Err e) → A
 not_done is = let no : ◌≡◌ {A = ℕ} 0 1 = cc in absurd (omega arith)
 
 -- the way out of a call that is refused
-refused_way : {s : State} {call : Call} {o : Outcome} {r : Reach} → Way s call o r → (e : SchedError) → o.answer.status ≡ Refused e →
+refused_way : {s : State} {call : Call} {o : Outcome} {r : Reach} → Way s call o r → (e : SchedError) → o.answer.status ≡ Err e →
     (o ≡ refused e s) × Refusal s e r
 refused_way {s} {r = r} (refuses f why) e is = let same : f ≡ e = cc in subst (λ (g : SchedError). (refused f s ≡ refused g s) × Refusal s g r) same (refl, why)
 refused_way (tells v of) e is = not_done is
@@ -32,11 +32,11 @@ refused_way (keeps how c elapsed h low held named awake on) e is = not_done is
 refused_way (comes how previous c t u low on-it held by) e is = not_done is
 
 -- "A refusal changes no state", makes no pick and has no value
-pub refused-whole : (call : Call) (s : State) (e : SchedError) → (step call s).answer.status ≡ Refused e → step call s ≡ refused e s
+pub refused-whole : (call : Call) (s : State) (e : SchedError) → (step call s).answer.status ≡ Err e → step call s ≡ refused e s
 refused-whole call s e is = (refused_way (way call s) e is).0
 
 -- number 2 is never answered
-pub never_2 : (call : Call) (s : State) → Accepted s → (step call s).answer.status ≡ Refused QueueFull → ⊥
+pub never_2 : (call : Call) (s : State) → Accepted s → (step call s).answer.status ≡ Err QueueFull → ⊥
 never_2 call s a is = by_refusal (refused_way (way call s) QueueFull is).1 refl
   where
     by_refusal : {e : SchedError} {r : Reach} → Refusal s e r → error_code e ≡ 2 → ⊥

@@ -6,14 +6,13 @@ use mathlib.Core.List.{List, [], ◌∷◌, ◌++◌, map}
 use Prim.Native.Nat.{ℕ}
 use borrow.Author.Tests.{eqb-true, eq-eqb, ltb-true, lt-ltb, not-true}
 use lib.Dec.{ltb, eqb}
+use Rattle.std.specs.Prelude.{Option, None, Some}
 use Rattle.records.specs.declared.ids.Slot.{Slot}
 use Rattle.records.specs.Mask.{permits}
 use Rattle.records.proofs.Cases.{split}
 use Rattle.rules.specs.declared.call.Call.{Call}
 use Rattle.rules.specs.declared.call.Call.TheVariants.{Create, Affinity, Terminate, Block, Wake, Enqueue, Schedule, Tick, Yield, Handoff, Plan, CanRunOnCore, TaskIndexForTid, Task, CurrentTaskOnCpu, SystemTicksUs, Holder}
 use Rattle.rules.specs.declared.answer.Pick.{Pick}
-use Rattle.rules.specs.declared.answer.PickOption.{PickOption}
-use Rattle.rules.specs.declared.answer.PickOption.TheVariants as pick
 use Rattle.records.specs.Lists.{Each, but_last}
 use Rattle.rules.specs.State.{State, task}
 use Rattle.rules.specs.Step.{step, run}
@@ -135,17 +134,17 @@ events_append (call ∷ past) next s =
 
 -- ---- which calls pick X
 
-picked : (x : ℕ) (o : PickOption) → is_pick x o ≡ true → (p : Pick) × (o ≡ pick.Some p) × (p.slot.0 ≡ x)
-picked x pick.None h = absurd (false≢true h)
-picked x (pick.Some p) h = (p, refl, eqb-true p.slot.0 x h)
+picked : (x : ℕ) (o : Option Pick) → is_pick x o ≡ true → (p : Pick) × (o ≡ Some p) × (p.slot.0 ≡ x)
+picked x None h = absurd (false≢true h)
+picked x (Some p) h = (p, refl, eqb-true p.slot.0 x h)
 
-pub picks_when : (x : ℕ) (e : Event) → picks x e ≡ true → (p : Pick) × (e.answer.pick ≡ pick.Some p) × (p.slot.0 ≡ x)
+pub picks_when : (x : ℕ) (e : Event) → picks x e ≡ true → (p : Pick) × (e.answer.pick ≡ Some p) × (p.slot.0 ≡ x)
 picks_when x e = picked x e.answer.pick
 
 -- ---- queries
 
 pub query_does_nothing : (x : ℕ) (s : State) (call : Call) → Query call →
-    (breaks x (event_of call s) ≡ false) × ((step call s).answer.pick ≡ pick.None) × ((step call s).state ≡ s)
+    (breaks x (event_of call s) ≡ false) × ((step call s).answer.pick ≡ None) × ((step call s).state ≡ s)
 query_does_nothing x s call (can_run slot c) = (refl, refl, refl)
 query_does_nothing x s call (index_for tid) = (refl, refl, refl)
 query_does_nothing x s call (record_of slot) = (refl, refl, refl)

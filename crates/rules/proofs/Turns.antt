@@ -8,6 +8,7 @@ use Prim.Native.Nat.{ℕ, ◌≤◌, ◌<◌}
 use native.Mathlib.Omega.{arith}
 use borrow.Author.Tests.{lt-ltb, leb-true, leb-false, eqb-true, eqb-false, eq-eqb}
 use lib.Dec.{ltb, leb, eqb}
+use Rattle.std.specs.Prelude.{Option, None, Some}
 use Rattle.records.specs.declared.band.QoSClass.{QoSClass}
 use Rattle.records.specs.declared.state.ThreadState.TheVariants.{Ready}
 use Rattle.records.specs.Band.{band_code}
@@ -18,8 +19,6 @@ use Rattle.records.proofs.Cases.{split}
 use Rattle.queue.specs.Entries.{taken_at}
 use Rattle.rules.specs.declared.call.Call.{Call}
 use Rattle.rules.specs.declared.answer.Pick.{Pick}
-use Rattle.rules.specs.declared.answer.PickOption.{PickOption}
-use Rattle.rules.specs.declared.answer.PickOption.TheVariants as pick
 use Rattle.rules.specs.State.{State, task, queue}
 use Rattle.rules.specs.Picking.{permitted, place_for, first_permitted, after_pick, rule_p, schedule}
 use Rattle.rules.specs.Step.{step}
@@ -31,25 +30,24 @@ use Rattle.rules.proofs.Invariant.{Invariant}
 use Rattle.rules.proofs.Moves.{Alike, Undisturbed, in_queue}
 use Rattle.rules.proofs.Parts.{of_band_with}
 use Rattle.rules.proofs.Picks.{Choice, taken, none, choice-is, not_overlooked, pick_order, pick_held, P-below}
-use Rattle.records.specs.declared.ids.SlotOption.TheVariants as slot
 
 -- X waits on: its record is alike, and whoever of its band was picked, and then those still before it, stood before it in that order
-pub record WaitsOn (x : ℕ) (s : State) (o : PickOption) (t : State) : Type 0 where
+pub record WaitsOn (x : ℕ) (s : State) (o : Option Pick) (t : State) : Type 0 where
   pub alike : Alike (task t x) (task s x)
   pub order : Sublistᴰ (others_in (task s x).qos x o (before x (queue t (task s x).qos))) (before x (queue s (task s x).qos))
 
-pub record Turn (x : ℕ) (s : State) (o : PickOption) (t : State) : Type 0 where
-  pub bands : (p : Pick) → o ≡ pick.Some p → band_code p.band ≤ band_code (task s x).qos
+pub record Turn (x : ℕ) (s : State) (o : Option Pick) (t : State) : Type 0 where
+  pub bands : (p : Pick) → o ≡ Some p → band_code p.band ≤ band_code (task s x).qos
   pub goes : is_pick x o ≡ false → WaitsOn x s o t
 
-turn-quiet : (x : ℕ) (s t : State) → Undisturbed x s t → Turn x s pick.None t
+turn-quiet : (x : ℕ) (s t : State) → Undisturbed x s t → Turn x s None t
 turn-quiet x s t c = record {
   bands = λ p e. let no : ◌≡◌ {A = ℕ} 0 1 = cc in absurd (omega arith);
   goes = λ _. record { alike = c.alike; order = c.order };
 }
 
 -- a call that first changes other things
-turn-after : (x : ℕ) (s t u : State) (o : PickOption) → Undisturbed x s t → Turn x t o u → Turn x s o u
+turn-after : (x : ℕ) (s t u : State) (o : Option Pick) → Undisturbed x s t → Turn x t o u → Turn x s o u
 turn-after x s t u o c r = record {
   bands = λ p e. subst (λ (b : QoSClass). band_code p.band ≤ band_code b) c.alike.band (r.bands p e);
   goes = λ not-x.
@@ -67,8 +65,8 @@ module _ (s : State) (k : Invariant s) (x : ℕ) (ready : (task s x).state ≡ R
   mine = (task s x).qos
 
   -- one was chosen
-  module _ (p : Pick) (is : first_permitted s c p.band ≡ slot.Some p.slot)
-      (earlier : (b : QoSClass) → band_code b < band_code p.band → first_permitted s c b ≡ slot.None) where
+  module _ (p : Pick) (is : first_permitted s c p.band ≡ Some p.slot)
+      (earlier : (b : QoSClass) → band_code b < band_code p.band → first_permitted s c b ≡ None) where
     abbrev i : ℕ
     i = p.slot.0
 
@@ -76,7 +74,7 @@ module _ (s : State) (k : Invariant s) (x : ℕ) (ready : (task s x).state ≡ R
     rest = taken_at (place_for s c p.band) (queue s p.band)
 
     abbrev t : State
-    t = (after_pick s c (pick.Some p)).state
+    t = (after_pick s c (Some p)).state
 
     not_behind : band_code p.band ≤ band_code mine
     not_behind =
@@ -91,7 +89,7 @@ module _ (s : State) (k : Invariant s) (x : ℕ) (ready : (task s x).state ≡ R
         rw (of_band_with s.queues p.band rest) (pick_order s k c p is x other may there) in
         subst (λ (b : QoSClass). Sublistᴰ (i ∷ before x (queue t b)) (before x (queue s b))) same left
 
-    waits_behind : eqb i x ≡ false → WaitsOn x s (pick.Some p) t
+    waits_behind : eqb i x ≡ false → WaitsOn x s (Some p) t
     waits_behind differs =
         let other : x ≡ i → ⊥ = λ same. eqb-false i x differs (sym same) in
         let calm : Undisturbed x s t = (pick_held s k c p is low).undisturbed x (other, may) ready in
@@ -104,16 +102,16 @@ module _ (s : State) (k : Invariant s) (x : ℕ) (ready : (task s x).state ≡ R
               (λ _. calm.order));
         }
 
-    turn_taken : Turn x s (pick.Some p) t
+    turn_taken : Turn x s (Some p) t
     turn_taken =
         record { bands = λ q e. let same : p ≡ q = cc in subst (λ (r : Pick). band_code r.band ≤ band_code mine) same not_behind; goes = waits_behind }
 
-  turn_pick : {o : PickOption} → Choice s c o →
-      Turn x s (after_pick s c o).pick (after_pick s c o).state × ((p : Pick) × ((after_pick s c o).pick ≡ pick.Some p))
+  turn_pick : {o : Option Pick} → Choice s c o →
+      Turn x s (after_pick s c o).pick (after_pick s c o).state × ((p : Pick) × ((after_pick s c o).pick ≡ Some p))
   turn_pick (none empty) = absurd (not_overlooked s c mine x may (in_queue s k x ready) (empty mine))
   turn_pick (taken p is earlier) = (turn_taken p is earlier, (p, refl))
 
-  turn_P : Turn x s (rule_p c s).pick (rule_p c s).state × ((p : Pick) × ((rule_p c s).pick ≡ pick.Some p))
+  turn_P : Turn x s (rule_p c s).pick (rule_p c s).state × ((p : Pick) × ((rule_p c s).pick ≡ Some p))
   turn_P = rw (P-below s c low) (turn_pick (choice-is s c))
 
 -- ---- one call of a stretch
@@ -137,14 +135,14 @@ module _ (s : State) (k : Invariant s) (x : ℕ) (ready : (task s x).state ≡ R
   alone : concern call ≡ changes x → ⊥
   alone = left_alone x mask (concern call) unbroken
 
-  turn_course : {o : PickOption} {t : State} {r : Reach} → Course call s o t r → Turn x s o t
-  turn_course {o} {t} (quiet no-pick f) = subst (λ (q : PickOption). Turn x s q t) (sym no-pick) (turn-quiet x s t (f.undisturbed x alone ready))
+  turn_course : {o : Option Pick} {t : State} {r : Reach} → Course call s o t r → Turn x s o t
+  turn_course {o} {t} (quiet no-pick f) = subst (λ (q : Option Pick). Turn x s q t) (sym no-pick) (turn-quiet x s t (f.undisturbed x alone ready))
   turn_course {o} {t} (reaching u c low on-it f p-is end_is) =
       let calm : Undisturbed x s u = f.undisturbed x alone ready in
       let may : permitted u c x ≡ true = ap (λ (m : ℕ). permits m c) calm.alike.mask ∙ may_use x mask (concern call) c unbroken on-it low in
       let by-P : Turn x u (rule_p c u).pick (rule_p c u).state = (turn_P u f.invariant x (calm.alike.state ∙ ready) c low may).0 in
       let whole : Turn x s (rule_p c u).pick (rule_p c u).state = turn-after x s u (rule_p c u).state (rule_p c u).pick calm by-P in
-      subst (λ (q : PickOption). Turn x s q t) (sym p-is) (subst (λ (v : State). Turn x s (rule_p c u).pick v) (sym end_is) whole)
+      subst (λ (q : Option Pick). Turn x s q t) (sym p-is) (subst (λ (v : State). Turn x s (rule_p c u).pick v) (sym end_is) whole)
 
   pub turn : Turn x s (step call s).answer.pick (step call s).state
   turn = turn_course (course call s k)
@@ -152,5 +150,5 @@ module _ (s : State) (k : Invariant s) (x : ℕ) (ready : (task s x).state ≡ R
   pub schedule_picks : SchedulePicks (event_of call s)
   unfolding schedule
   schedule_picks c is low =
-      let found : (p : Pick) × ((rule_p c s).pick ≡ pick.Some p) = (turn_P s k x ready c low (may_use x mask (concern call) c unbroken (ap concern is) low)).1 in
+      let found : (p : Pick) × ((rule_p c s).pick ≡ Some p) = (turn_P s k x ready c low (may_use x mask (concern call) c unbroken (ap concern is) low)).1 in
       (found.0, ap (λ (q : Call). (step q s).answer.pick) is ∙ found.1)

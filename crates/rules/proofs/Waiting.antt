@@ -6,6 +6,8 @@ use mathlib.Core.List.{List, [], ◌∷◌, ◌++◌, Sublistᴰ}
 use Prim.Native.Nat.{ℕ, ◌≤◌}
 use native.Mathlib.Omega.{arith}
 use lib.Dec.{eqb}
+use Rattle.std.specs.Prelude.{Option, None, Some}
+use Rattle.rules.specs.declared.answer.Pick.{Pick}
 use Rattle.records.specs.declared.band.QoSClass.{QoSClass}
 use Rattle.records.specs.declared.state.ThreadState.TheVariants.{Ready}
 use Rattle.records.specs.Band.{band_code}
@@ -13,8 +15,6 @@ use Rattle.records.specs.Lists.{Each, count}
 use Rattle.records.proofs.Cases.{split}
 use Rattle.queue.proofs.Counts.{count_append}
 use Rattle.rules.specs.declared.call.Call.{Call}
-use Rattle.rules.specs.declared.answer.PickOption.{PickOption}
-use Rattle.rules.specs.declared.answer.PickOption.TheVariants as pick
 use Rattle.rules.specs.State.{State, new_state, task, queue}
 use Rattle.rules.specs.Accepted.{Accepted}
 use Rattle.rules.specs.Step.{step, run}
@@ -38,18 +38,18 @@ unfolding Each others
 no_calls band x entries = record { schedules = tt; bands = tt; in_order = Sublistᴰ.nil-sublist entries }
 
 -- fewer behind an event are fewer with it
-others_sub : (band : QoSClass) (x : ℕ) (o : PickOption) {a b : List ℕ} → Sublistᴰ a b → Sublistᴰ (others_in band x o a) (others_in band x o b)
-others_sub band x pick.None h = h
-others_sub band x (pick.Some p) {a} {b} h =
+others_sub : (band : QoSClass) (x : ℕ) (o : Option Pick) {a b : List ℕ} → Sublistᴰ a b → Sublistᴰ (others_in band x o a) (others_in band x o b)
+others_sub band x None h = h
+others_sub band x (Some p) {a} {b} h =
     split (λ (t : Bool). Sublistᴰ (cond t (p.slot.0 ∷ a) a) (cond t (p.slot.0 ∷ b) b))
     (eqb (band_code p.band) (band_code band) && not (eqb p.slot.0 x))
     (λ _. Sublistᴰ.cons-cons refl h)
     (λ _. h)
 
 -- X itself is not one of the others
-others-own : (band : QoSClass) (x : ℕ) (o : PickOption) (later : List ℕ) → is_pick x o ≡ true → others_in band x o later ≡ later
-others-own band x pick.None later is = refl
-others-own band x (pick.Some p) later is =
+others-own : (band : QoSClass) (x : ℕ) (o : Option Pick) (later : List ℕ) → is_pick x o ≡ true → others_in band x o later ≡ later
+others-own band x None later is = refl
+others-own band x (Some p) later is =
     rw is (split (λ (t : Bool). cond (t && false) (p.slot.0 ∷ later) later ≡ later) (eqb (band_code p.band) (band_code band)) (λ _. refl) (λ _. refl))
 
 -- one event more in front, after which X waits on
@@ -72,7 +72,7 @@ bound [] s k x ready = no_calls (task s x).qos x (ahead s x)
 bound (call ∷ next) s k x ready =
     let band : QoSClass = (task s x).qos in
     let t : State = (step call s).state in
-    let o : PickOption = (step call s).answer.pick in
+    let o : Option Pick = (step call s).answer.pick in
     let e : Event = event_of call s in
     let Holds : List Event → Type 0 = Bound band x (ahead s x) in
     split (λ (b : Bool). Holds (cond b [] (e ∷ cond (picks x e) [] (stretch_of x t next)))) (breaks x e)

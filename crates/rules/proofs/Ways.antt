@@ -8,12 +8,11 @@ use Prim.Native.Nat.{ℕ, ◌<◌}
 use native.Mathlib.Omega.{arith}
 use borrow.Author.Tests.{leb-false, not-false}
 use lib.Dec.{leb}
+use Rattle.std.specs.Prelude.{Option, None, Some}
 use Rattle.records.specs.declared.band.QoSClass.{QoSClass}
 use Rattle.records.specs.declared.error.SchedError.{SchedError}
 use Rattle.records.specs.declared.error.SchedError.TheVariants.{TableFull, QueueFull, NoSuchTask, AlreadyReady, AlreadyBlocked, NotBlocked}
 use Rattle.records.specs.declared.ids.Slot.{Slot}
-use Rattle.records.specs.declared.ids.SlotOption.{SlotOption}
-use Rattle.records.specs.declared.ids.SlotOption.TheVariants as slot
 use Rattle.records.specs.declared.ids.Tid.{Tid}
 use Rattle.records.specs.declared.state.ThreadState.{ThreadState}
 use Rattle.records.specs.declared.state.ThreadState.TheVariants.{Ready, Running, Blocked, Terminated}
@@ -25,9 +24,6 @@ use Rattle.records.specs.ThreadState.{is_state}
 use Rattle.records.proofs.Cases.{split, by_if}
 use Rattle.queue.specs.Entries.{full}
 use Rattle.rules.specs.declared.answer.Pick.{Pick}
-use Rattle.rules.specs.declared.answer.PickOption.{PickOption}
-use Rattle.rules.specs.declared.answer.PickOption.TheVariants as pick
-use Rattle.rules.specs.declared.answer.PlanOption.TheVariants as plan
 use Rattle.rules.specs.declared.answer.Value.{Value}
 use Rattle.rules.specs.declared.answer.Value.TheVariants as value
 use Rattle.rules.specs.declared.call.Call.{Call}
@@ -52,11 +48,11 @@ pub data Telling : Type 0 where
   by_slot : Telling
   plan_telling : Telling
 
-abbrev pub telling_of : Telling → SlotOption → Chosen → Value
+abbrev pub telling_of : Telling → Option Slot → Chosen → Value
 telling_of by_slot previous c = value.Slot c.next
 telling_of plan_telling previous c = value.Plan (plan_of previous c.next c.state)
 
-abbrev pub told_as : Telling → SlotOption → Chosen → Outcome
+abbrev pub told_as : Telling → Option Slot → Chosen → Outcome
 told_as how previous c = chosen_as (telling_of how previous c) c
 
 -- refused with this number
@@ -67,12 +63,12 @@ pub data Refusal (s : State) : SchedError → Reach → Type 0 where
   by_full_queue : {r : Reach} (i : ℕ) → missing s i ≡ false → is_state (task s i).state Ready ≡ false → full (queue s (task s i).qos) ≡ true →
       Refusal s QueueFull r
   -- 3: a holder that is not in use
-  by_free_holder : {r : Reach} (c : ℕ) (h : Slot) → holder_of s c ≡ slot.Some h → missing s h.0 ≡ true → Refusal s NoSuchTask r
+  by_free_holder : {r : Reach} (c : ℕ) (h : Slot) → holder_of s c ≡ Some h → missing s h.0 ≡ true → Refusal s NoSuchTask r
 
 -- a value that tells of the state, or of nothing
 pub data Tells (s : State) : Value → Type 0 where
-  nobody : Tells s (value.Slot slot.None)
-  no_plan : Tells s (value.Plan plan.None)
+  nobody : Tells s (value.Slot None)
+  no_plan : Tells s (value.Plan None)
   a_flag : (b : Bool) → Tells s (value.Flag b)
   a_slot : (n : ℕ) → Tells s (value.Slot (slot_below n))
   a_core : (i : ℕ) → Tells s (value.Core (core_of i s))
@@ -83,7 +79,7 @@ pub data Tells (s : State) : Value → Type 0 where
 -- what a call on a slot does, the value that it is answered with, and the state then
 pub data Deed (s : State) : Call → Value → State → Type 0 where
   by_create : (tid : Tid) (band : QoSClass) (context cr3 rsp0 : ℕ) → free_slot s < 64 →
-      Deed s (Create tid band context cr3 rsp0) (value.Slot (slot.Some (record { 0 = free_slot s })))
+      Deed s (Create tid band context cr3 rsp0) (value.Slot (Some (record { 0 = free_slot s })))
       (with_task s (free_slot s) (created tid band context cr3 rsp0))
   by_affinity : (i : Slot) (mask : ℕ) → i.0 < 64 →
       Deed s (Affinity i mask) value.Nothing (with_task s i.0 (with_mask (task s i.0) (stored_mask mask)))
@@ -107,14 +103,14 @@ pub data Approach (s : State) (call : Call) (c : ℕ) : State → State → Type
   -- nothing: a schedule, or a core without a holder
   straight : {u : State} → Timed s u → Approach s call c u u
   -- a Blocked holder is cleared
-  clearing : {u : State} → Timed s u → (h : Slot) → holder_of s c ≡ slot.Some h → is_state (task s h.0).state Blocked ≡ true →
+  clearing : {u : State} → Timed s u → (h : Slot) → holder_of s c ≡ Some h → is_state (task s h.0).state Blocked ≡ true →
       Approach s call c (cleared c u) (cleared c u)
   -- the slice of a holder that is not Blocked is over
-  slice_ends : (elapsed : ℕ) (h : Slot) → holder_of s c ≡ slot.Some h → named_slot call s ≡ h.0 → is_state (task s h.0).state Blocked ≡ false →
+  slice_ends : (elapsed : ℕ) (h : Slot) → holder_of s c ≡ Some h → named_slot call s ≡ h.0 → is_state (task s h.0).state Blocked ≡ false →
       slice_over h.0 elapsed c (gain elapsed s) ≡ true →
       Approach s call c (requeued h.0 (gain elapsed s)) (out_of_slice h.0 (gain elapsed s))
   -- a Running holder yields
-  yielding : (h : Slot) → holder_of s c ≡ slot.Some h → named_slot call s ≡ h.0 → is_state (task s h.0).state Running ≡ true →
+  yielding : (h : Slot) → holder_of s c ≡ Some h → named_slot call s ≡ h.0 → is_state (task s h.0).state Running ≡ true →
       Approach s call c (cleared c (enqueued h.0 s)) (cleared c (enqueued h.0 s))
 
 pub data Way (s : State) : Call → Outcome → Reach → Type 0 where
@@ -125,26 +121,26 @@ pub data Way (s : State) : Call → Outcome → Reach → Type 0 where
   -- something is done to a slot
   does : {call : Call} (v : Value) (t : State) → Deed s call v t → Way s call (done v t) unreached
   -- a tick's holder, which is not Blocked, is charged, and stays
-  keeps : {call : Call} (how : Telling) (c elapsed : ℕ) (h : Slot) → c < 64 → holder_of s c ≡ slot.Some h → named_slot call s ≡ h.0 →
+  keeps : {call : Call} (how : Telling) (c elapsed : ℕ) (h : Slot) → c < 64 → holder_of s c ≡ Some h → named_slot call s ≡ h.0 →
       is_state (task s h.0).state Blocked ≡ false → slice_over h.0 elapsed c (gain elapsed s) ≡ false →
-      Way s call (told_as how (slot.Some h) (stays_holder h elapsed (gain elapsed s))) unreached
+      Way s call (told_as how (Some h) (stays_holder h elapsed (gain elapsed s))) unreached
   -- it comes to P, on the core that it names
-  comes : {call : Call} (how : Telling) (previous : SlotOption) (c : ℕ) (t u : State) → c < 64 → concern call ≡ names c → holder_of s c ≡ previous →
+  comes : {call : Call} (how : Telling) (previous : Option Slot) (c : ℕ) (t u : State) → c < 64 → concern call ≡ names c → holder_of s c ≡ previous →
       Approach s call c t u → Way s call (told_as how previous (rule_p c t)) (reaches u c)
 
 -- ---- P, and a holder's way back to its queue
 
 -- on a core below 64 P takes somebody, or nobody
 pub data PEnd (s : State) (c : ℕ) : Chosen → Type 0 where
-  picks_one : (p : Pick) → PEnd s c (after_pick s c (pick.Some p))
-  picks_none : PEnd s c (after_pick s c pick.None)
+  picks_one : (p : Pick) → PEnd s c (after_pick s c (Some p))
+  picks_none : PEnd s c (after_pick s c None)
 
 pub P-way : (s : State) (c : ℕ) → c < 64 → PEnd s c (rule_p c s)
 P-way s c low = subst (PEnd s c) (sym (P-below s c low)) (by_choice (choice s c band_order))
   where
-    by_choice : (o : PickOption) → PEnd s c (after_pick s c o)
-    by_choice (pick.Some p) = picks_one p
-    by_choice pick.None = picks_none
+    by_choice : (o : Option Pick) → PEnd s c (after_pick s c o)
+    by_choice (Some p) = picks_one p
+    by_choice None = picks_none
 
 -- a holder whose slice is over has consumed nothing then, and is queued unless its enqueue is refused
 pub data Requeued (i : ℕ) (s : State) : State → Type 0 where
@@ -215,50 +211,50 @@ module _ (s : State) where
 
 module _ (s : State) (call : Call) (c : ℕ) (low : c < 64) (on-it : concern call ≡ names c) (of-holder : named_slot call s ≡ holder s c) where
   -- the slot that the call is about
-  named : (h : Slot) → holder_of s c ≡ slot.Some h → named_slot call s ≡ h.0
+  named : (h : Slot) → holder_of s c ≡ Some h → named_slot call s ≡ h.0
   named h is = of-holder ∙ (held-slot s c h is).0
 
-  tick_way : (how : Telling) (elapsed : ℕ) (h : SlotOption) → holder_of s c ≡ h →
+  tick_way : (how : Telling) (elapsed : ℕ) (h : Option Slot) → holder_of s c ≡ h →
       Way s call (told_as how h (tick_holder h c elapsed (gain elapsed s))) (tick_reach h c elapsed (gain elapsed s))
-  tick_way how elapsed slot.None is = comes how slot.None c _ _ low on-it is (straight (later elapsed))
-  tick_way how elapsed (slot.Some h) is =
+  tick_way how elapsed None is = comes how None c _ _ low on-it is (straight (later elapsed))
+  tick_way how elapsed (Some h) is =
       let u : State = gain elapsed s in
       let Over : Bool → Chosen = λ (b : Bool). cond b (rule_p c (requeued h.0 u)) (stays_holder h elapsed u) in
       let OverReach : Bool → Reach = λ (b : Bool). cond b (reaches (out_of_slice h.0 u) c) unreached in
       let over : Bool = slice_over h.0 elapsed c u in
       rw (switches-is h.0 elapsed c u) (
-      split (λ (b : Bool). Way s call (told_as how (slot.Some h) (cond b (rule_p c (cleared c u)) (Over over)))
+      split (λ (b : Bool). Way s call (told_as how (Some h) (cond b (rule_p c (cleared c u)) (Over over)))
       (cond b (reaches (cleared c u) c) (OverReach over)))
       (is_state (task u h.0).state Blocked)
-      (λ blocked. comes how (slot.Some h) c _ _ low on-it is (clearing (later elapsed) h is blocked))
-      (λ awake. split (λ (b : Bool). Way s call (told_as how (slot.Some h) (Over b)) (OverReach b)) over
-      (λ ended. comes how (slot.Some h) c _ _ low on-it is (slice_ends elapsed h is (named h is) awake ended))
+      (λ blocked. comes how (Some h) c _ _ low on-it is (clearing (later elapsed) h is blocked))
+      (λ awake. split (λ (b : Bool). Way s call (told_as how (Some h) (Over b)) (OverReach b)) over
+      (λ ended. comes how (Some h) c _ _ low on-it is (slice_ends elapsed h is (named h is) awake ended))
       (λ on. keeps how c elapsed h low is (named h is) awake on)))
 
-  yield_way : (h : SlotOption) → holder_of s c ≡ h → Way s call (yield_holder h c s) (yield_reach h c s)
+  yield_way : (h : Option Slot) → holder_of s c ≡ h → Way s call (yield_holder h c s) (yield_reach h c s)
   unfolding enqueue
-  yield_way slot.None is = comes plan_telling slot.None c s s low on-it is (straight at_once)
-  yield_way (slot.Some h) is =
+  yield_way None is = comes plan_telling None c s s low on-it is (straight at_once)
+  yield_way (Some h) is =
       let away : Reach = reaches (cleared c (enqueued h.0 s)) c in
-      let Ends : Outcome → Type 0 = λ (o : Outcome). Way s call (and_then o (λ t. answer_plan (slot.Some h) (rule_p c (cleared c t)))) away in
+      let Ends : Outcome → Type 0 = λ (o : Outcome). Way s call (and_then o (λ t. answer_plan (Some h) (rule_p c (cleared c t)))) away in
       split (λ (b : Bool). Way s call (cond (not b) (refused NoSuchTask s) (yield_running h c s)) (cond b away unreached))
       (is_state (task s h.0).state Running)
       (λ runs.
       by_if Ends (missing s h.0) (λ lost. refuses NoSuchTask (by_free_holder c h is lost)) (λ here.
       by_if Ends (is_state (task s h.0).state Ready) (λ ready. absurd (true≢false (sym ready ∙ idle_in (task s h.0) Running runs refl))) (λ idle.
       by_if Ends (full (queue s (task s h.0).qos)) (λ none_left. refuses QueueFull (by_full_queue h.0 here idle none_left)) (λ _.
-      comes plan_telling (slot.Some h) c _ _ low on-it is (yielding h is (named h is) runs)))))
+      comes plan_telling (Some h) c _ _ low on-it is (yielding h is (named h is) runs)))))
       (λ _. no_task s)
 
-  handoff_way : (h : SlotOption) → holder_of s c ≡ h → Way s call (handoff_holder h c s) (handoff_reach h c s)
-  handoff_way slot.None is = no_task s
-  handoff_way (slot.Some h) is = by_state (task s h.0).state refl
+  handoff_way : (h : Option Slot) → holder_of s c ≡ h → Way s call (handoff_holder h c s) (handoff_reach h c s)
+  handoff_way None is = no_task s
+  handoff_way (Some h) is = by_state (task s h.0).state refl
     where
       by_state : (st : ThreadState) → (task s h.0).state ≡ st →
           Way s call (handoff_in st h c s) (cond (is_state st Blocked) (reaches (cleared c s) c) unreached)
       by_state Ready e = refuse s NotBlocked (λ n. omega arith)
       by_state Running e = tells _ no_plan
-      by_state Blocked e = comes plan_telling (slot.Some h) c _ _ low on-it is (clearing at_once h is (ap (λ (st : ThreadState). is_state st Blocked) e))
+      by_state Blocked e = comes plan_telling (Some h) c _ _ low on-it is (clearing at_once h is (ap (λ (st : ThreadState). is_state st Blocked) e))
       by_state Terminated e = no_task s
 
 -- ---- every call
@@ -281,22 +277,22 @@ way (Schedule c) s =
     (λ _ low. comes by_slot (holder_of s c) c s s (leb-false 64 c low) refl refl (straight at_once))
     refl
 way (Tick c elapsed) s =
-    let h : SlotOption = holder_of s c in
+    let h : Option Slot = holder_of s c in
     let u : State = gain elapsed s in
     on_core c (λ (b : Bool). Way s (Tick c elapsed) (answer_slot (cond b (no_choice s) (tick_holder h c elapsed u))) (cond b unreached (tick_reach h c elapsed u)))
     (tells _ nobody) (λ low. tick_way s (Tick c elapsed) c low refl refl by_slot elapsed h refl)
 way (Yield c) s =
-    let h : SlotOption = holder_of s c in
+    let h : Option Slot = holder_of s c in
     on_core c (λ (b : Bool). Way s (Yield c) (cond b (refused NoSuchTask s) (yield_holder h c s)) (cond b unreached (yield_reach h c s)))
     (no_task s) (λ low. yield_way s (Yield c) c low refl refl h refl)
 way (Handoff c) s =
-    let h : SlotOption = holder_of s c in
+    let h : Option Slot = holder_of s c in
     on_core c (λ (b : Bool). Way s (Handoff c) (cond b (refused NoSuchTask s) (handoff_holder h c s)) (cond b unreached (handoff_reach h c s)))
     (no_task s) (λ low. handoff_way s (Handoff c) c low refl refl h refl)
 way (Plan c elapsed) s =
-    let h : SlotOption = holder_of s c in
+    let h : Option Slot = holder_of s c in
     let u : State = gain elapsed s in
-    let Ends : Bool → Outcome = λ (b : Bool). cond b (done (value.Plan plan.None) s) (answer_plan h (cond b (no_choice s) (tick_holder h c elapsed u))) in
+    let Ends : Bool → Outcome = λ (b : Bool). cond b (done (value.Plan None) s) (answer_plan h (cond b (no_choice s) (tick_holder h c elapsed u))) in
     on_core c (λ (b : Bool). Way s (Plan c elapsed) (Ends b) (cond b unreached (tick_reach h c elapsed u))) (tells _ no_plan)
     (λ low. tick_way s (Plan c elapsed) c low refl refl plan_telling elapsed h refl)
 way (CanRunOnCore i c) s = tells _ (a_flag (can_run_on_core i.0 c s))

@@ -1,8 +1,10 @@
 -- Document 01, "Call frames": an answer's number and values as the paper lists them, status, pick slot, pick band, then the value. How many
 -- bytes each number takes is the frames' matter.
-use Rattle.std.specs.Prelude.{Bool, cond, List, [], ◌∷◌, ◌++◌, ℕ}
-use Rattle.records.specs.declared.ids.SlotOption.{SlotOption}
-use Rattle.records.specs.declared.ids.SlotOption.TheVariants as slot
+use Rattle.std.specs.Prelude.{Bool, cond, List, [], ◌∷◌, ◌++◌, ℕ, Option, None, Some, Result, Ok, Err}
+use Rattle.records.specs.declared.error.SchedError.{SchedError}
+use Rattle.rules.specs.declared.answer.Pick.{Pick}
+use Rattle.rules.specs.declared.answer.ContextSwitchPlan.{ContextSwitchPlan}
+use Rattle.records.specs.declared.ids.Slot.{Slot}
 use Rattle.records.specs.declared.task.TaskControlBlock.{TaskControlBlock}
 use Rattle.records.specs.Band.{band_code}
 use Rattle.records.specs.Error.{error_code}
@@ -10,38 +12,28 @@ use Rattle.records.specs.ThreadState.{state_code}
 use Rattle.rules.specs.declared.answer.Answer.{Answer}
 use Rattle.rules.specs.declared.answer.ContextSwitchTarget.{ContextSwitchTarget}
 use Rattle.rules.specs.declared.answer.ContextSwitchTarget.TheVariants as target
-use Rattle.rules.specs.declared.answer.CoreOption.{CoreOption}
-use Rattle.rules.specs.declared.answer.CoreOption.TheVariants as core
-use Rattle.rules.specs.declared.answer.PickOption.{PickOption}
-use Rattle.rules.specs.declared.answer.PickOption.TheVariants as pick
-use Rattle.rules.specs.declared.answer.PlanOption.{PlanOption}
-use Rattle.rules.specs.declared.answer.PlanOption.TheVariants as plan
-use Rattle.rules.specs.declared.answer.Status.{Status}
-use Rattle.rules.specs.declared.answer.Status.TheVariants.{Done, Refused}
-use Rattle.rules.specs.declared.answer.TaskOption.{TaskOption}
-use Rattle.rules.specs.declared.answer.TaskOption.TheVariants as task
 use Rattle.rules.specs.declared.answer.Value.{Value}
 use Rattle.rules.specs.declared.answer.Value.TheVariants as value
 use Rattle.rules.specs.State.{none_byte}
 
 -- "status (0 or the refusal)"
-abbrev pub status_number : Status → ℕ
-status_number Done = 0
-status_number (Refused e) = error_code e
+abbrev pub status_number : Result Unit SchedError → ℕ
+status_number (Ok _) = 0
+status_number (Err e) = error_code e
 
 -- "pick slot and pick band (ff ff for none)"
-abbrev pub pick_numbers : PickOption → List ℕ
-pick_numbers pick.None = none_byte ∷ none_byte ∷ []
-pick_numbers (pick.Some p) = p.slot.0 ∷ band_code p.band ∷ []
+abbrev pub pick_numbers : Option Pick → List ℕ
+pick_numbers None = none_byte ∷ none_byte ∷ []
+pick_numbers (Some p) = p.slot.0 ∷ band_code p.band ∷ []
 
 -- "a slot or core byte, ff for none"
-abbrev pub slot_number : SlotOption → ℕ
-slot_number slot.None = none_byte
-slot_number (slot.Some s) = s.0
+abbrev pub slot_number : Option Slot → ℕ
+slot_number None = none_byte
+slot_number (Some s) = s.0
 
-abbrev pub core_number : CoreOption → ℕ
-core_number core.None = none_byte
-core_number (core.Some c) = c
+abbrev pub core_number : Option ℕ → ℕ
+core_number None = none_byte
+core_number (Some c) = c
 
 -- "00 or 01"; "in use 1 (0 or 1)"
 abbrev pub flag_number : Bool → ℕ
@@ -53,9 +45,9 @@ target_numbers target.Idle = none_byte ∷ 0 ∷ []
 target_numbers (target.Task slot cr3) = slot.0 ∷ cr3 ∷ []
 
 -- "for plans 00, or 01, previous byte (ff none), target byte (ff idle), cr3 8 (0 if idle)"
-abbrev pub plan_numbers : PlanOption → List ℕ
-plan_numbers plan.None = 0 ∷ []
-plan_numbers (plan.Some p) = 1 ∷ slot_number p.prev_task_idx ∷ target_numbers p.target
+abbrev pub plan_numbers : Option ContextSwitchPlan → List ℕ
+plan_numbers None = 0 ∷ []
+plan_numbers (Some p) = 1 ∷ slot_number p.prev_task_idx ∷ target_numbers p.target
 
 -- "tid 4, band 1 [..], state 1 [..], context 8, cr3 8, rsp0 8, mask 8 [..], budget 4, consumed 4, in use 1"
 abbrev pub record_numbers : TaskControlBlock → List ℕ
@@ -64,9 +56,9 @@ record_numbers t =
     t.cpu_affinity ∷ t.slice_budget_us ∷ t.consumed_slice_us ∷ flag_number t.in_use ∷ []
 
 -- "00, or 01 and the record"
-abbrev pub task_numbers : TaskOption → List ℕ
-task_numbers task.None = 0 ∷ []
-task_numbers (task.Some t) = 1 ∷ record_numbers t
+abbrev pub task_numbers : Option TaskControlBlock → List ℕ
+task_numbers None = 0 ∷ []
+task_numbers (Some t) = 1 ∷ record_numbers t
 
 -- "then the value"
 abbrev pub value_numbers : Value → List ℕ

@@ -1,13 +1,11 @@
 -- Document 01, "Picking": rule P, and schedule, which is P alone.
-use Rattle.std.specs.Prelude.{Bool, cond, List, [], ◌∷◌, ℕ, ltb, leb, length}
+use Rattle.std.specs.Prelude.{Bool, cond, List, [], ◌∷◌, ℕ, ltb, leb, length, Option, None, Some}
+use Rattle.rules.specs.declared.answer.Pick.{Pick}
+use Rattle.records.specs.declared.ids.Slot.{Slot}
 use Rattle.records.specs.declared.band.QoSClass.{QoSClass}
-use Rattle.records.specs.declared.ids.SlotOption.{SlotOption}
-use Rattle.records.specs.declared.ids.SlotOption.TheVariants as slot
 use Rattle.records.specs.Mask.{permits}
 use Rattle.records.specs.Task.{picked}
 use Rattle.queue.specs.Entries.{entry_at, taken_at}
-use Rattle.rules.specs.declared.answer.PickOption.{PickOption}
-use Rattle.rules.specs.declared.answer.PickOption.TheVariants as pick
 use Rattle.rules.specs.declared.answer.Value.TheVariants as value
 use Rattle.records.specs.Lists.{first_place}
 use Rattle.rules.specs.State.{State, none_byte, band_order, task, queue, with_task, with_queue, with_holder}
@@ -21,7 +19,7 @@ permitted s core slot = permits (task s slot).cpu_affinity core
 abbrev pub place_for : State → ℕ → QoSClass → ℕ
 place_for s core band = first_place (permitted s core) (queue s band)
 
-abbrev pub first_permitted : State → ℕ → QoSClass → SlotOption
+abbrev pub first_permitted : State → ℕ → QoSClass → Option Slot
 first_permitted s core band = entry_at (place_for s core band) (queue s band)
 
 -- a permitted entry waits in the band
@@ -29,12 +27,12 @@ abbrev pub waits_in : State → ℕ → QoSClass → Bool
 waits_in s core band = ltb (place_for s core band) (length (queue s band))
 
 -- "go through bands 0, 1, 2": the entry found in this band, or else what the bands behind it give
-abbrev pub found_in : QoSClass → SlotOption → PickOption → PickOption
-found_in band (slot.Some e) later = pick.Some (record { slot = e; band = band })
-found_in band slot.None later = later
+abbrev pub found_in : QoSClass → Option Slot → Option Pick → Option Pick
+found_in band (Some e) later = Some (record { slot = e; band = band })
+found_in band None later = later
 
-unfoldable pub choice : State → ℕ → List QoSClass → PickOption
-choice s core [] = pick.None
+unfoldable pub choice : State → ℕ → List QoSClass → Option Pick
+choice s core [] = None
 choice s core (band ∷ bands) = found_in band (first_permitted s core band) (choice s core bands)
 
 -- "Entries before it move to that queue's tail in their order and it leaves."
@@ -47,13 +45,13 @@ runs_on s core slot = with_holder (with_task s slot (picked (task s slot))) core
 
 -- "If no queue has one, holder c becomes none and all queues keep their order. [..] The former holder is not requeued: unless it is the pick its
 -- state stays, so a Running one may be held nowhere."
-abbrev pub after_pick : State → ℕ → PickOption → Chosen
-after_pick s core (pick.Some p) = record { next = slot.Some p.slot; pick = pick.Some p; state = runs_on (leaves s core p.band) core p.slot.0 }
-after_pick s core pick.None = record { next = slot.None; pick = pick.None; state = with_holder s core none_byte }
+abbrev pub after_pick : State → ℕ → Option Pick → Chosen
+after_pick s core (Some p) = record { next = Some p.slot; pick = Some p; state = runs_on (leaves s core p.band) core p.slot.0 }
+after_pick s core None = record { next = None; pick = None; state = with_holder s core none_byte }
 
 -- nobody is chosen, nothing changed
 abbrev pub no_choice : State → Chosen
-no_choice s = record { next = slot.None; pick = pick.None; state = s }
+no_choice s = record { next = None; pick = None; state = s }
 
 -- "None is answered only then, or for c of 64 and above (no change)."
 unfoldable pub rule_p : ℕ → State → Chosen

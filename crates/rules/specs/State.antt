@@ -1,9 +1,8 @@
 -- Document 01, "Task record, queues, holders": the scheduler's state, and the new one.
-use Rattle.std.specs.Prelude.{cond, List, [], ◌∷◌, ℕ, eqb, get_or, set, replicate}
+use Rattle.std.specs.Prelude.{cond, List, [], ◌∷◌, ℕ, eqb, get_or, set, replicate, Option, None, Some}
+use Rattle.records.specs.declared.ids.Slot.{Slot}
 use Rattle.records.specs.declared.band.QoSClass.{QoSClass}
 use Rattle.records.specs.declared.band.QoSClass.TheVariants.{UserInteractive, RealTimeIO, Background}
-use Rattle.records.specs.declared.ids.SlotOption.{SlotOption}
-use Rattle.records.specs.declared.ids.SlotOption.TheVariants as slot
 use Rattle.records.specs.declared.task.TaskControlBlock.{TaskControlBlock}
 use Rattle.records.specs.Task.{empty_record}
 
@@ -58,10 +57,10 @@ abbrev pub holder : State → ℕ → ℕ
 holder s core = get_or s.holders core none_byte
 
 -- the same, as a slot that may be missing
-abbrev pub holder_in : ℕ → SlotOption
-holder_in number = cond (eqb number none_byte) slot.None (slot.Some (record { 0 = number }))
+abbrev pub holder_in : ℕ → Option Slot
+holder_in number = cond (eqb number none_byte) None (Some (record { 0 = number }))
 
-abbrev pub holder_of : State → ℕ → SlotOption
+abbrev pub holder_of : State → ℕ → Option Slot
 holder_of s core = holder_in (holder s core)
 
 -- ---- the state with one part changed, all else as it was

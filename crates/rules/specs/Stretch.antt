@@ -1,14 +1,13 @@
 -- X's stretch, from demand 3 and document 01's paragraph on its list: the list call by call, which calls end the stretch, its picks, and the
 -- entries before X. Everything here computes.
-use Rattle.std.specs.Prelude.{Bool, false, cond, not, ◌&&◌, List, [], ◌∷◌, ℕ, ltb, eqb}
+use Rattle.std.specs.Prelude.{Bool, false, cond, not, ◌&&◌, List, [], ◌∷◌, ℕ, ltb, eqb, Option, None, Some}
+use Rattle.rules.specs.declared.answer.Pick.{Pick}
 use Rattle.records.specs.declared.band.QoSClass.{QoSClass}
 use Rattle.records.specs.Band.{band_code}
 use Rattle.records.specs.Mask.{permits}
 use Rattle.rules.specs.declared.call.Call.{Call}
 use Rattle.rules.specs.declared.call.Call.TheVariants.{Create, Affinity, Terminate, Block, Wake, Enqueue, Schedule, Tick, Yield, Handoff, Plan, CanRunOnCore, TaskIndexForTid, Task, CurrentTaskOnCpu, SystemTicksUs, Holder}
 use Rattle.rules.specs.declared.answer.Answer.{Answer}
-use Rattle.rules.specs.declared.answer.PickOption.{PickOption}
-use Rattle.rules.specs.declared.answer.PickOption.TheVariants as pick
 use Rattle.rules.specs.State.{State, task, queue}
 use Rattle.rules.specs.Step.{step}
 
@@ -66,9 +65,9 @@ breaks_for x mask nothing = false
 abbrev pub breaks : ℕ → Event → Bool
 breaks x e = breaks_for x (task e.found x).cpu_affinity (concern e.call)
 
-abbrev pub is_pick : ℕ → PickOption → Bool
-is_pick x pick.None = false
-is_pick x (pick.Some p) = eqb p.slot.0 x
+abbrev pub is_pick : ℕ → Option Pick → Bool
+is_pick x None = false
+is_pick x (Some p) = eqb p.slot.0 x
 
 -- the call picks X
 abbrev pub picks : ℕ → Event → Bool
@@ -87,9 +86,9 @@ stretch_of x s next = stretch (breaks x) (picks x) (events next s)
 -- ---- its picks
 
 -- "the picks from X's band before X's own": in a stretch, those of the band that are not X
-abbrev pub others_in : QoSClass → ℕ → PickOption → List ℕ → List ℕ
-others_in band x pick.None later = later
-others_in band x (pick.Some p) later = cond (eqb (band_code p.band) (band_code band) && not (eqb p.slot.0 x)) (p.slot.0 ∷ later) later
+abbrev pub others_in : QoSClass → ℕ → Option Pick → List ℕ → List ℕ
+others_in band x None later = later
+others_in band x (Some p) later = cond (eqb (band_code p.band) (band_code band) && not (eqb p.slot.0 x)) (p.slot.0 ∷ later) later
 
 unfoldable pub others : QoSClass → ℕ → List Event → List ℕ
 others band x [] = []

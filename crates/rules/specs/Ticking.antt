@@ -1,20 +1,16 @@
 -- Document 01, "Tick, yield, handoff, plan", with their refusals in the table's order.
-use Rattle.std.specs.Prelude.{Bool, true, false, cond, not, ◌||◌, ℕ, ◌+◌, ◌%◌, ◌^◌, leb, eqb}
+use Rattle.std.specs.Prelude.{Bool, true, false, cond, not, ◌||◌, ℕ, ◌+◌, ◌%◌, ◌^◌, leb, eqb, Option, None, Some}
+use Rattle.rules.specs.declared.answer.ContextSwitchPlan.{ContextSwitchPlan}
 use Rattle.records.specs.declared.band.QoSClass.{QoSClass}
 use Rattle.records.specs.declared.band.QoSClass.TheVariants.{UserInteractive, RealTimeIO, Background}
 use Rattle.records.specs.declared.error.SchedError.TheVariants.{NoSuchTask, NotBlocked}
 use Rattle.records.specs.declared.ids.Slot.{Slot}
-use Rattle.records.specs.declared.ids.SlotOption.{SlotOption}
-use Rattle.records.specs.declared.ids.SlotOption.TheVariants as slot
 use Rattle.records.specs.declared.state.ThreadState.{ThreadState}
 use Rattle.records.specs.declared.state.ThreadState.TheVariants.{Ready, Running, Blocked, Terminated}
 use Rattle.records.specs.ThreadState.{is_state}
 use Rattle.records.specs.Task.{with_consumed}
 use Rattle.rules.specs.declared.answer.ContextSwitchTarget.{ContextSwitchTarget}
 use Rattle.rules.specs.declared.answer.ContextSwitchTarget.TheVariants.{Task, Idle}
-use Rattle.rules.specs.declared.answer.PickOption.TheVariants as pick
-use Rattle.rules.specs.declared.answer.PlanOption.{PlanOption}
-use Rattle.rules.specs.declared.answer.PlanOption.TheVariants as plan
 use Rattle.rules.specs.declared.answer.Value.TheVariants as value
 use Rattle.rules.specs.State.{State, none_byte, task, holder_of, with_task, with_holder, with_micros}
 use Rattle.rules.specs.Outcome.{Outcome, Chosen, done, refused, and_then, chosen_as}
@@ -52,12 +48,12 @@ requeued h s = (enqueue h (with_task s h (with_consumed (task s h) 0))).state
 
 -- "Else the holder is the answer."
 abbrev pub stays_holder : Slot → ℕ → State → Chosen
-stays_holder h elapsed s = record { next = slot.Some h; pick = pick.None; state = with_task s h.0 (with_consumed (task s h.0) (charged h.0 elapsed s)) }
+stays_holder h elapsed s = record { next = Some h; pick = None; state = with_task s h.0 (with_consumed (task s h.0) (charged h.0 elapsed s)) }
 
 -- "No holder: P. Holder Blocked: clear it, then P. Otherwise [..]"
-abbrev pub tick_holder : SlotOption → ℕ → ℕ → State → Chosen
-tick_holder slot.None core elapsed s = rule_p core s
-tick_holder (slot.Some h) core elapsed s =
+abbrev pub tick_holder : Option Slot → ℕ → ℕ → State → Chosen
+tick_holder None core elapsed s = rule_p core s
+tick_holder (Some h) core elapsed s =
     cond (is_state (task s h.0).state Blocked) (rule_p core (cleared core s)) (
     cond (slice_over h.0 elapsed core s) (rule_p core (requeued h.0 s)) (stays_holder h elapsed s))
 
@@ -72,37 +68,37 @@ tick core elapsed s = answer_slot (ticked core elapsed s)
 -- ---- plans
 
 -- "the target: a slot with its cr3, or idle"
-abbrev pub target_of : SlotOption → State → ContextSwitchTarget
-target_of slot.None s = Idle
-target_of (slot.Some n) s = Task n (task s n.0).cr3
+abbrev pub target_of : Option Slot → State → ContextSwitchTarget
+target_of None s = Idle
+target_of (Some n) s = Task n (task s n.0).cr3
 
 -- "equals the previous holder, or both are none"
-abbrev pub same : SlotOption → SlotOption → Bool
-same slot.None slot.None = true
-same slot.None (slot.Some n) = false
-same (slot.Some p) slot.None = false
-same (slot.Some p) (slot.Some n) = eqb p.0 n.0
+abbrev pub same : Option Slot → Option Slot → Bool
+same None None = true
+same None (Some n) = false
+same (Some p) None = false
+same (Some p) (Some n) = eqb p.0 n.0
 
 -- "A plan gives the previous holder or none, and the target [..]. There is no plan when the pick (for the plan call, the tick's answer)
 -- equals the previous holder, or both are none."
-abbrev pub plan_to : SlotOption → SlotOption → ContextSwitchTarget → PlanOption
-plan_to previous next target = cond (same previous next) plan.None (plan.Some (record { prev_task_idx = previous; target = target }))
+abbrev pub plan_to : Option Slot → Option Slot → ContextSwitchTarget → Option ContextSwitchPlan
+plan_to previous next target = cond (same previous next) None (Some (record { prev_task_idx = previous; target = target }))
 
 -- to the slot as the state has it
-abbrev pub plan_of : SlotOption → SlotOption → State → PlanOption
+abbrev pub plan_of : Option Slot → Option Slot → State → Option ContextSwitchPlan
 plan_of previous next s = plan_to previous next (target_of next s)
 
-abbrev pub answer_plan : SlotOption → Chosen → Outcome
+abbrev pub answer_plan : Option Slot → Chosen → Outcome
 answer_plan previous c = chosen_as (value.Plan (plan_of previous c.next c.state)) c
 
 -- "a holder that is Running is enqueued and cleared; then P"
 abbrev pub yield_running : Slot → ℕ → State → Outcome
-yield_running h core s = and_then (enqueue h.0 s) (λ t. answer_plan (slot.Some h) (rule_p core (cleared core t)))
+yield_running h core s = and_then (enqueue h.0 s) (λ t. answer_plan (Some h) (rule_p core (cleared core t)))
 
 -- 3 for "its holder not Running". No holder: P, and the previous is none.
-abbrev pub yield_holder : SlotOption → ℕ → State → Outcome
-yield_holder slot.None core s = answer_plan slot.None (rule_p core s)
-yield_holder (slot.Some h) core s = cond (not (is_state (task s h.0).state Running)) (refused NoSuchTask s) (yield_running h core s)
+abbrev pub yield_holder : Option Slot → ℕ → State → Outcome
+yield_holder None core s = answer_plan None (rule_p core s)
+yield_holder (Some h) core s = cond (not (is_state (task s h.0).state Running)) (refused NoSuchTask s) (yield_running h core s)
 
 -- 08 yield: 3 where "core 64 or above"
 unfoldable pub yield : ℕ → State → Outcome
@@ -110,15 +106,15 @@ yield core s = cond (leb 64 core) (refused NoSuchTask s) (yield_holder (holder_o
 
 -- "Running gives no plan; Blocked is cleared, then P"; 6 where "holder Ready". A Terminated one is not in use, so it is no holder.
 abbrev pub handoff_in : ThreadState → Slot → ℕ → State → Outcome
-handoff_in Running h core s = done (value.Plan plan.None) s
-handoff_in Blocked h core s = answer_plan (slot.Some h) (rule_p core (cleared core s))
+handoff_in Running h core s = done (value.Plan None) s
+handoff_in Blocked h core s = answer_plan (Some h) (rule_p core (cleared core s))
 handoff_in Ready h core s = refused NotBlocked s
 handoff_in Terminated h core s = refused NoSuchTask s
 
 -- 3 where there is "no holder"
-abbrev pub handoff_holder : SlotOption → ℕ → State → Outcome
-handoff_holder slot.None core s = refused NoSuchTask s
-handoff_holder (slot.Some h) core s = handoff_in (task s h.0).state h core s
+abbrev pub handoff_holder : Option Slot → ℕ → State → Outcome
+handoff_holder None core s = refused NoSuchTask s
+handoff_holder (Some h) core s = handoff_in (task s h.0).state h core s
 
 -- 09 handoff: 3 where "core 64 or above"
 unfoldable pub handoff : ℕ → State → Outcome
@@ -126,4 +122,4 @@ handoff core s = cond (leb 64 core) (refused NoSuchTask s) (handoff_holder (hold
 
 -- 0a plan: "Plan runs the tick; for c of 64 and above it gives no plan."
 unfoldable pub planned : ℕ → ℕ → State → Outcome
-planned core elapsed s = cond (leb 64 core) (done (value.Plan plan.None) s) (answer_plan (holder_of s core) (ticked core elapsed s))
+planned core elapsed s = cond (leb 64 core) (done (value.Plan None) s) (answer_plan (holder_of s core) (ticked core elapsed s))

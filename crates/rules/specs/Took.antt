@@ -1,10 +1,10 @@
 -- What P takes in a call: whether the call reaches P, from which state and on which core. Written from document 01's sentences on the five
 -- calls that name a core, beside those calls' own rules; of these only P itself and the small changes are used here (an enqueue, a cleared
 -- holder, the microseconds). proofs/Calls.antt shows that the two agree in every accepted state.
-use Rattle.std.specs.Prelude.{◌≡◌, Bool, cond, ◌&&◌, ◌||◌, ℕ, ◌+◌, ltb, leb}
+use Rattle.std.specs.Prelude.{◌≡◌, Bool, cond, ◌&&◌, ◌||◌, ℕ, ◌+◌, ltb, leb, Option, None, Some}
+use Rattle.rules.specs.declared.answer.Pick.{Pick}
+use Rattle.records.specs.declared.ids.Slot.{Slot}
 use Rattle.records.specs.declared.band.QoSClass.{QoSClass}
-use Rattle.records.specs.declared.ids.SlotOption.{SlotOption}
-use Rattle.records.specs.declared.ids.SlotOption.TheVariants as slot
 use Rattle.records.specs.declared.state.ThreadState.TheVariants.{Ready, Running, Blocked}
 use Rattle.records.specs.Band.{band_code}
 use Rattle.records.specs.Mask.{permits}
@@ -13,8 +13,6 @@ use Rattle.records.specs.Task.{with_consumed}
 use Rattle.records.specs.Lists.{any_of}
 use Rattle.rules.specs.declared.call.Call.{Call}
 use Rattle.rules.specs.declared.call.Call.TheVariants.{Create, Affinity, Terminate, Block, Wake, Enqueue, Schedule, Tick, Yield, Handoff, Plan, CanRunOnCore, TaskIndexForTid, Task, CurrentTaskOnCpu, SystemTicksUs, Holder}
-use Rattle.rules.specs.declared.answer.PickOption.{PickOption}
-use Rattle.rules.specs.declared.answer.PickOption.TheVariants as pick
 use Rattle.rules.specs.State.{State, band_order, task, queue, holder_of, with_task}
 use Rattle.rules.specs.Outcome.{Outcome}
 use Rattle.rules.specs.Picking.{rule_p}
@@ -48,21 +46,21 @@ out_of_slice h s = back_to_queue h (with_task s h (with_consumed (task s h) 0))
 
 -- "No holder: P. Holder Blocked: clear it, then P. Otherwise [..] if it reaches the budget, or a permitted entry waits in an earlier band,
 -- [..] then P. Else the holder is the answer."
-abbrev pub tick_reach : SlotOption → ℕ → ℕ → State → Reach
-tick_reach slot.None core elapsed s = reaches s core
-tick_reach (slot.Some h) core elapsed s =
+abbrev pub tick_reach : Option Slot → ℕ → ℕ → State → Reach
+tick_reach None core elapsed s = reaches s core
+tick_reach (Some h) core elapsed s =
     cond (is_state (task s h.0).state Blocked) (reaches (cleared core s) core) (
     cond (switches h.0 elapsed core s) (reaches (out_of_slice h.0 s) core) unreached)
 
 -- "a holder that is Running is enqueued and cleared; then P"
-abbrev pub yield_reach : SlotOption → ℕ → State → Reach
-yield_reach slot.None core s = reaches s core
-yield_reach (slot.Some h) core s = cond (is_state (task s h.0).state Running) (reaches (cleared core (enqueued h.0 s)) core) unreached
+abbrev pub yield_reach : Option Slot → ℕ → State → Reach
+yield_reach None core s = reaches s core
+yield_reach (Some h) core s = cond (is_state (task s h.0).state Running) (reaches (cleared core (enqueued h.0 s)) core) unreached
 
 -- "Blocked is cleared, then P"
-abbrev pub handoff_reach : SlotOption → ℕ → State → Reach
-handoff_reach slot.None core s = unreached
-handoff_reach (slot.Some h) core s = cond (is_state (task s h.0).state Blocked) (reaches (cleared core s) core) unreached
+abbrev pub handoff_reach : Option Slot → ℕ → State → Reach
+handoff_reach None core s = unreached
+handoff_reach (Some h) core s = cond (is_state (task s h.0).state Blocked) (reaches (cleared core s) core) unreached
 
 -- schedule is P; plan runs the tick; no call that names no core comes to P, and no query does
 unfoldable pub reach : Call → State → Reach
@@ -85,11 +83,11 @@ reach SystemTicksUs s = unreached
 reach (Holder slot) s = unreached
 
 -- "A pick is what P takes in a call, at most one a call"
-abbrev pub taken_by : Reach → PickOption
-taken_by unreached = pick.None
+abbrev pub taken_by : Reach → Option Pick
+taken_by unreached = None
 taken_by (reaches s core) = (rule_p core s).pick
 
-abbrev pub took : Call → State → PickOption
+abbrev pub took : Call → State → Option Pick
 took call s = taken_by (reach call s)
 
 -- what an outcome has of P: "the answer carries exactly that pick, or none"

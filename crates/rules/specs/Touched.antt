@@ -1,9 +1,8 @@
 -- Which records a call can change: that of the slot that it names or that its core holds, and that of the slot that it answers with. A writer
 -- of the state after a call need write no other.
-use Rattle.std.specs.Prelude.{◌≡◌, ℕ}
+use Rattle.std.specs.Prelude.{◌≡◌, ℕ, Option, None, Some}
+use Rattle.rules.specs.declared.answer.Pick.{Pick}
 use Rattle.rules.specs.declared.answer.Answer.{Answer}
-use Rattle.rules.specs.declared.answer.PickOption.{PickOption}
-use Rattle.rules.specs.declared.answer.PickOption.TheVariants as pick
 use Rattle.rules.specs.declared.answer.Value.{Value}
 use Rattle.rules.specs.declared.answer.Value.TheVariants as value
 use Rattle.rules.specs.declared.call.Call.{Call}
@@ -42,9 +41,9 @@ value_slot (value.Task t) = none_byte
 value_slot (value.Micros n) = none_byte
 
 -- the slot that was picked, or else this one
-abbrev pub picked_or : PickOption → ℕ → ℕ
-picked_or (pick.Some p) slot = p.slot.0
-picked_or pick.None slot = slot
+abbrev pub picked_or : Option Pick → ℕ → ℕ
+picked_or (Some p) slot = p.slot.0
+picked_or None slot = slot
 
 -- the slot that an answer tells of: its pick, or else its value
 abbrev pub answered_slot : Answer → ℕ

@@ -1,6 +1,6 @@
 -- Demand 3 on the rules: what is claimed of every list of calls, at every point, for every slot that is Ready there. The customer's sentences
 -- stand beside the fields.
-use Rattle.std.specs.Prelude.{◌≡◌, ℕ, ◌≤◌, ◌<◌, length}
+use Rattle.std.specs.Prelude.{◌≡◌, ℕ, ◌≤◌, ◌<◌, length, Some}
 use mathlib.Core.List.{List, ◌∷◌, ◌++◌, Sublistᴰ}
 use Rattle.records.specs.declared.band.QoSClass.{QoSClass}
 use Rattle.records.specs.declared.state.ThreadState.TheVariants.{Ready}
@@ -9,7 +9,6 @@ use Rattle.records.specs.Lists.{Each, count}
 use Rattle.rules.specs.declared.call.Call.{Call}
 use Rattle.rules.specs.declared.call.Call.TheVariants.{Schedule}
 use Rattle.rules.specs.declared.answer.Pick.{Pick}
-use Rattle.rules.specs.declared.answer.PickOption.TheVariants as pick
 use Rattle.rules.specs.State.{State, task, queue}
 use Rattle.rules.specs.Step.{step, run}
 use Rattle.rules.specs.Took.{Carries}
@@ -17,11 +16,11 @@ use Rattle.rules.specs.Stretch.{Event, others, ahead, stretch_of}
 
 -- a schedule on a core below 64 picks
 abbrev pub SchedulePicks : Event → Type 0
-SchedulePicks e = (core : ℕ) → e.call ≡ Schedule core → core < 64 → (p : Pick) × (e.answer.pick ≡ pick.Some p)
+SchedulePicks e = (core : ℕ) → e.call ≡ Schedule core → core < 64 → (p : Pick) × (e.answer.pick ≡ Some p)
 
 -- the pick, if there is one, is not from a band behind this one
 abbrev pub NotBehind : QoSClass → Event → Type 0
-NotBehind band e = (p : Pick) → e.answer.pick ≡ pick.Some p → band_code p.band ≤ band_code band
+NotBehind band e = (p : Pick) → e.answer.pick ≡ Some p → band_code p.band ≤ band_code band
 
 -- of a stretch, for a band, X and the entries before X at its start
 pub record Waiting (band : QoSClass) (x : ℕ) (entries : List ℕ) (es : List Event) : Type 0 where

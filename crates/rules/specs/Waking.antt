@@ -1,8 +1,7 @@
 -- Document 01, "Waiting and waking": create, affinity, terminate, block, wake, enqueue, with their refusals in the table's order.
-use Rattle.std.specs.Prelude.{Bool, cond, not, ◌||◌, map, ℕ, ltb, leb, eqb}
+use Rattle.std.specs.Prelude.{Bool, cond, not, ◌||◌, map, ℕ, ltb, leb, eqb, Some}
 use Rattle.records.specs.declared.band.QoSClass.{QoSClass}
 use Rattle.records.specs.declared.error.SchedError.TheVariants.{TableFull, QueueFull, NoSuchTask, AlreadyReady, AlreadyBlocked, NotBlocked}
-use Rattle.records.specs.declared.ids.SlotOption.TheVariants as slot
 use Rattle.records.specs.declared.ids.Tid.{Tid}
 use Rattle.records.specs.declared.state.ThreadState.TheVariants.{Ready, Running, Blocked}
 use Rattle.records.specs.declared.task.TaskControlBlock.{TaskControlBlock}
@@ -21,7 +20,7 @@ free_slot s = first_place (λ (t : TaskControlBlock). not t.in_use) s.tasks
 
 -- 00 create: "takes the lowest slot not in use"; 1 where there is "no free slot"
 abbrev pub create_at : ℕ → TaskControlBlock → State → Outcome
-create_at free t s = cond (leb 64 free) (refused TableFull s) (done (value.Slot (slot.Some (record { 0 = free }))) (with_task s free t))
+create_at free t s = cond (leb 64 free) (refused TableFull s) (done (value.Slot (Some (record { 0 = free }))) (with_task s free t))
 
 unfoldable pub create : Tid → QoSClass → ℕ → ℕ → ℕ → State → Outcome
 create tid band context cr3 rsp0 s = create_at (free_slot s) (created tid band context cr3 rsp0) s

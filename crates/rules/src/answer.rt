@@ -1,79 +1,48 @@
 // What a call answers: a status, the pick that was made, and a value.
-use records::{QoSClass, SchedError, Slot, SlotOption, TaskControlBlock};
+use records::{QoSClass, SchedError, Slot, TaskControlBlock};
 
-#[derive(Clone, Copy)]
+#[derive(Clone, Copy, PartialEq, Eq)]
 pub struct Answer {
-    pub status: Status,
+    // Done, or refused, and then nothing was changed.
+    pub status: Result<(), SchedError>,
     // What the picking rule took in this call.
-    pub pick: PickOption,
+    pub pick: Option<Pick>,
     pub value: Value,
 }
 
-#[derive(Clone, Copy)]
-pub enum Status {
-    Done,
-    // Nothing was changed.
-    Refused(SchedError),
-}
-
 // A slot that was picked, and the band whose queue it left.
-#[derive(Clone, Copy)]
+#[derive(Clone, Copy, PartialEq, Eq)]
 pub struct Pick {
     pub slot: Slot,
     pub band: QoSClass,
 }
 
-#[derive(Clone, Copy)]
-pub enum PickOption {
-    None,
-    Some(Pick),
-}
-
-#[derive(Clone, Copy)]
+#[derive(Clone, Copy, PartialEq, Eq)]
 pub enum Value {
     // affinity, terminate, block, wake, enqueue, and every refusal
     Nothing,
     // create, schedule, tick, task_index_for_tid
-    Slot(SlotOption),
+    Slot(Option<Slot>),
     // the holder query
-    Core(CoreOption),
-    // yield, handoff, plan
-    Plan(PlanOption),
+    Core(Option<usize>),
+    // yield, handoff, plan; None where the core goes on as it was
+    Plan(Option<ContextSwitchPlan>),
     // can_run_on_core
     Flag(bool),
     // task, current_task_on_cpu
-    Task(TaskOption),
+    Task(Option<TaskControlBlock>),
     // the system microseconds
     Micros(u64),
 }
 
-#[derive(Clone, Copy)]
-pub enum CoreOption {
-    None,
-    Some(usize),
-}
-
-#[derive(Clone, Copy)]
-pub enum TaskOption {
-    None,
-    Some(TaskControlBlock),
-}
-
-#[derive(Clone, Copy)]
-pub enum PlanOption {
-    // The core goes on as it was.
-    None,
-    Some(ContextSwitchPlan),
-}
-
 // What the kernel is to do on a core: switch from the previous holder, if there was one, to the target.
-#[derive(Clone, Copy)]
+#[derive(Clone, Copy, PartialEq, Eq)]
 pub struct ContextSwitchPlan {
-    pub prev_task_idx: SlotOption,
+    pub prev_task_idx: Option<Slot>,
     pub target: ContextSwitchTarget,
 }
 
-#[derive(Clone, Copy)]
+#[derive(Clone, Copy, PartialEq, Eq)]
 pub enum ContextSwitchTarget {
     Task { task_idx: Slot, cr3: u64 },
     Idle,

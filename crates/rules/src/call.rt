@@ -1,7 +1,7 @@
 // Every call and query, in the order of document 01's frames 00 to 10. Each argument may be any number of its width.
 use records::{QoSClass, Slot, Tid};
 
-#[derive(Clone, Copy)]
+#[derive(Clone, Copy, PartialEq, Eq)]
 pub enum Call {
     // A task in the lowest slot not in use, Blocked.
     Create {

@@ -2,7 +2,7 @@
 // over them, and the laws of those definitions.
 //
 //   call     Call: every call and query, with its arguments
-//   answer   Answer: status, the pick made, and the value; plans and what may be missing
+//   answer   Answer: status, the pick made, and the value; plans
 //
 // specs/ has the state and the rules as definitions, in document 01's order: they are what a reader has to believe, and what the
 // functions of the crates above are proved equal to. proofs/ has the laws that hold of them for all arguments.
@@ -11,8 +11,5 @@
 mod answer;
 mod call;
 
-pub use answer::{
-    Answer, ContextSwitchPlan, ContextSwitchTarget, CoreOption, Pick, PickOption, PlanOption,
-    Status, TaskOption, Value,
-};
+pub use answer::{Answer, ContextSwitchPlan, ContextSwitchTarget, Pick, Value};
 pub use call::Call;

@@ -1,42 +1,48 @@
--- The stored scheduler's arrays read as lists, and three queues with one of them replaced. Assumes nothing.
-use Rattle.std.proofs.Common.{◌≡◌, ℕ, zero, suc, ◌<◌, List, [], ◌∷◌, length, get_or, set, sym, refl, ap, ◌∙◌, subst, le_of_suc-le-suc, arith}
+-- The stored scheduler's arrays read as the state that they hold, which is accepted in every scheduler: records, holders, queues; and three
+-- queues with some of them replaced. Assumes nothing.
+use Rattle.std.proofs.Common.{◌≡◌, ℕ, ◌<◌, List, [], ◌∷◌, length, get_or, set, refl, ap, ◌∙◌, arith}
+use Rattle.std.proofs.lemmas.List.{get_or_default}
 use Rattle.records.specs.declared.band.QoSClass.{QoSClass}
 use Rattle.records.specs.declared.band.QoSClass.TheVariants.{UserInteractive, RealTimeIO, Background}
 use Rattle.records.specs.declared.task.TaskControlBlock.{TaskControlBlock}
 use Rattle.records.specs.Band.{band_code}
-use Rattle.records.specs.Lists.{Each}
 use Rattle.queue.specs.declared.BandQueue.{BandQueue}
-use Rattle.queue.specs.Stored.{entries, WellFormed, Holds}
+use Rattle.queue.specs.Stored.{entries}
+use Rattle.rules.specs.Accepted.{Accepted}
+use Rattle.rules.specs.State.{task, of_band, with_band, queue, holder}
+use Rattle.rules.proofs.Accepts.{accepts_sound}
+use Rattle.rules.proofs.Invariant.{Invariant, accepted-invariant}
 use Rattle.scheduler.specs.declared.scheduler.QoSScheduler.{QoSScheduler}
-use Rattle.rules.specs.State.{Queues, task, of_band, with_band, queue, holder}
-use Rattle.scheduler.specs.Scheduler.{queues_of, abs, Whole, Valid, HoldsQueues}
+use Rattle.scheduler.specs.Stored.{queues_of}
+use Rattle.scheduler.specs.Scheduler.{abs}
 
--- ---- reading
+module _ (s : QoSScheduler) where
+  pub valid : Accepted (abs s)
+  unfolding abs
+  valid = accepts_sound (abs s) s.accepted
 
--- within a list the default is not read
-pub read-any : {A : Type 0} (l : List A) (i : ℕ) (d e : A) → i < length l → get_or l i d ≡ get_or l i e
-read-any [] i d e there = absurd (omega arith)
-read-any (a ∷ l) zero d e there = refl
-read-any (a ∷ l) (suc i) d e there = read-any l i d e (le_of_suc-le-suc there)
+  pub known : Invariant (abs s)
+  known = accepted-invariant (abs s) valid
 
-module _ (s : QoSScheduler) (v : Valid s) where
+  -- ---- records and holders, whatever is read past the end
+
   pub slots : length s.tasks ≡ 64
   unfolding abs
-  slots = v.accepted.slots
+  slots = valid.slots
 
   pub cores : length s.current ≡ 64
   unfolding abs
-  cores = v.accepted.cores
+  cores = valid.cores
 
-  pub record_at_lem : (i : ℕ) (d : TaskControlBlock) → i < 64 → get_or s.tasks i d ≡ task (abs s) i
+  pub record_at_lem : (slot : ℕ) (d : TaskControlBlock) → slot < 64 → get_or s.tasks slot d ≡ task (abs s) slot
   unfolding abs
-  record_at_lem i d low = read-any s.tasks i d _ (omega (arith, slots))
+  record_at_lem slot d low = get_or_default s.tasks slot d _ (omega (arith, slots))
 
-  pub holder_at : (core : ℕ) (d : ℕ) → core < 64 → get_or s.current core d ≡ holder (abs s) core
+  pub holder_at : (core d : ℕ) → core < 64 → get_or s.current core d ≡ holder (abs s) core
   unfolding abs
-  holder_at core d low = read-any s.current core d _ (omega (arith, cores))
+  holder_at core d low = get_or_default s.current core d _ (omega (arith, cores))
 
--- ---- the three queues
+-- ---- three queues
 
 three : (P : List BandQueue → Type 0) → ((a b c : BandQueue) → P (a ∷ b ∷ c ∷ [])) → (qs : List BandQueue) → length qs ≡ 3 → P qs
 three P are [] l = absurd (omega arith)
@@ -45,76 +51,37 @@ three P are (a ∷ b ∷ []) l = absurd (omega arith)
 three P are (a ∷ b ∷ c ∷ []) l = are a b c
 three P are (a ∷ b ∷ c ∷ d ∷ rest) l = absurd (omega arith)
 
--- a place among the three is a band's
-pub band-at : (n : ℕ) → n < 3 → (b : QoSClass) × (n ≡ band_code b)
-band-at zero low = (UserInteractive, refl)
-band-at (suc zero) low = (RealTimeIO, refl)
-band-at (suc (suc zero)) low = (Background, refl)
-band-at (suc (suc (suc n))) low = absurd (omega arith)
+entries_in : (b : QoSClass) (x y z d : BandQueue) → entries (get_or (x ∷ y ∷ z ∷ []) (band_code b) d) ≡ of_band (queues_of (x ∷ y ∷ z ∷ [])) b
+unfolding queues_of
+entries_in UserInteractive x y z d = refl
+entries_in RealTimeIO x y z d = refl
+entries_in Background x y z d = refl
 
--- a queue for each band
-pub three_hold : {q : Queues} {a b c : BandQueue} → Holds a q.interactive → Holds b q.real_time → Holds c q.background → HoldsQueues (a ∷ b ∷ c ∷ []) q
-unfolding queues_of Each
-three_hold a b c = record {
-  whole = record { bands = refl; rings = (a.well_formed, (b.well_formed, (c.well_formed, tt))) };
-  entries_are = λ i. record { interactive = a.entries_are i; real_time = b.entries_are i; background = c.entries_are i };
-}
+put_in : (b : QoSClass) (x y z q : BandQueue) →
+    queues_of (set (x ∷ y ∷ z ∷ []) (band_code b) q) ≡ with_band (queues_of (x ∷ y ∷ z ∷ [])) b (entries q)
+unfolding queues_of
+put_in UserInteractive x y z q = refl
+put_in RealTimeIO x y z q = refl
+put_in Background x y z q = refl
 
-module _ (qs : List BandQueue) (w : Whole qs) (b : QoSClass) where
-  pub ring_of : (d : BandQueue) → WellFormed (get_or qs (band_code b) d)
-  unfolding Each
-  ring_of d = three (λ (l : List BandQueue). Each WellFormed l → WellFormed (get_or l (band_code b) d)) (λ x y z. by_band x y z b) qs w.bands w.rings
-    where
-      by_band : (x y z : BandQueue) (b : QoSClass) → Each WellFormed (x ∷ y ∷ z ∷ []) → WellFormed (get_or (x ∷ y ∷ z ∷ []) (band_code b) d)
-      by_band x y z UserInteractive h = h.0
-      by_band x y z RealTimeIO h = h.1.0
-      by_band x y z Background h = h.1.1.0
+module _ (qs : List BandQueue) (all : length qs ≡ 3) (b : QoSClass) {place : ℕ} (is : place ≡ band_code b) where
+  -- a band's queue, at the band's code
+  pub entries_of : (d : BandQueue) → entries (get_or qs place d) ≡ of_band (queues_of qs) b
+  entries_of d =
+      rw is (three (λ (l : List BandQueue). entries (get_or l (band_code b) d) ≡ of_band (queues_of l) b) (λ x y z. entries_in b x y z d) qs all)
 
-  pub entries_of : (d : BandQueue) → entries (get_or qs (band_code b) d) ≡ of_band (queues_of qs) b
-  unfolding queues_of
-  entries_of d = three (λ (l : List BandQueue). entries (get_or l (band_code b) d) ≡ of_band (queues_of l) b) (λ x y z. by_band x y z b) qs w.bands
-    where
-      by_band : (x y z : BandQueue) (b : QoSClass) → entries (get_or (x ∷ y ∷ z ∷ []) (band_code b) d) ≡ of_band (queues_of (x ∷ y ∷ z ∷ [])) b
-      by_band x y z UserInteractive = refl
-      by_band x y z RealTimeIO = refl
-      by_band x y z Background = refl
+  queue_put : (q : BandQueue) → queues_of (set qs place q) ≡ with_band (queues_of qs) b (entries q)
+  queue_put q =
+      rw is (three (λ (l : List BandQueue). queues_of (set l (band_code b) q) ≡ with_band (queues_of l) b (entries q))
+      (λ x y z. put_in b x y z q) qs all)
 
-  put_queue_lem : (q : BandQueue) (es : List ℕ) → Holds q es → HoldsQueues (set qs (band_code b) q) (with_band (queues_of qs) b es)
-  unfolding queues_of Each
-  put_queue_lem q es h =
-      three (λ (l : List BandQueue). Each WellFormed l → HoldsQueues (set l (band_code b) q) (with_band (queues_of l) b es)) (λ x y z. by_band x y z b)
-      qs w.bands w.rings
-    where
-      as_it_is : {x : BandQueue} → WellFormed x → Holds x (entries x)
-      as_it_is w = record { well_formed = w; entries_are = refl }
+  -- it becomes another, which holds what f makes of its entries
+  pub queue_changed : (d : BandQueue) (f : List ℕ → List ℕ) (q : BandQueue) → entries q ≡ f (entries (get_or qs place d)) →
+      queues_of (set qs place q) ≡ with_band (queues_of qs) b (f (of_band (queues_of qs) b))
+  queue_changed d f q e = queue_put q ∙ ap (with_band (queues_of qs) b) (e ∙ ap f (entries_of d))
 
-      by_band : (x y z : BandQueue) (b : QoSClass) → Each WellFormed (x ∷ y ∷ z ∷ []) →
-          HoldsQueues (set (x ∷ y ∷ z ∷ []) (band_code b) q) (with_band (queues_of (x ∷ y ∷ z ∷ [])) b es)
-      by_band x y z UserInteractive r = three_hold h (as_it_is r.1.0) (as_it_is r.1.1.0)
-      by_band x y z RealTimeIO r = three_hold (as_it_is r.0) h (as_it_is r.1.1.0)
-      by_band x y z Background r = three_hold (as_it_is r.0) (as_it_is r.1.0) h
-
--- the same at a place that is the band's code
-module _ (qs : List BandQueue) (w : Whole qs) (b : QoSClass) {n : ℕ} (is : n ≡ band_code b) where
-  pub ring_at : (d : BandQueue) → WellFormed (get_or qs n d)
-  ring_at d = subst (λ (k : ℕ). WellFormed (get_or qs k d)) (sym is) (ring_of qs w b d)
-
-  pub entries_at : (d : BandQueue) → entries (get_or qs n d) ≡ of_band (queues_of qs) b
-  entries_at d = ap (λ (k : ℕ). entries (get_or qs k d)) is ∙ entries_of qs w b d
-
-  pub queue_put : {q : BandQueue} {es : List ℕ} → Holds q es → HoldsQueues (set qs n q) (with_band (queues_of qs) b es)
-  queue_put {q} {es} h = subst (λ (k : ℕ). HoldsQueues (set qs k q) (with_band (queues_of qs) b es)) (sym is) (put_queue_lem qs w b q es h)
-
-  -- changed by f
-  pub queue_changed : (d : BandQueue) (f : List ℕ → List ℕ) {q : BandQueue} → Holds q (f (entries (get_or qs n d))) →
-      HoldsQueues (set qs n q) (with_band (queues_of qs) b (f (of_band (queues_of qs) b)))
-  queue_changed d f {q} h = queue_put (subst (λ (l : List ℕ). Holds q (f l)) (entries_at d) h)
-
--- at any place among the three
-pub ring_below : (qs : List BandQueue) → Whole qs → (n : ℕ) (d : BandQueue) → n < 3 → WellFormed (get_or qs n d)
-ring_below qs w n d low = let b : (b : QoSClass) × (n ≡ band_code b) = band-at n low in ring_at qs w b.0 b.1 d
-
--- in a valid scheduler
-pub queue_at_lem : {s : QoSScheduler} → Valid s → (b : QoSClass) {n : ℕ} → n ≡ band_code b → (d : BandQueue) → entries (get_or s.queues n d) ≡ queue (abs s) b
+-- in a scheduler
+pub queue_at_lem : (s : QoSScheduler) (b : QoSClass) {place : ℕ} → place ≡ band_code b → (d : BandQueue) →
+    entries (get_or s.queues place d) ≡ queue (abs s) b
 unfolding abs
-queue_at_lem {s} v b is d = entries_at s.queues v.whole b is d
+queue_at_lem s b is d = entries_of s.queues s.bands b is d

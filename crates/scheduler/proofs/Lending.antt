@@ -10,7 +10,7 @@ use base.Logic.{SProp, ent, sep, emp}
 use base.Fml.{Fml, GName, ftrue, fsep, fat, froom, flft, fres, fbor, flent}
 use prog.Wp.{Calls, Loops, Env, spot_of}
 use types.Logic.{Logic, sem}
-use contract.Monad.{fact}
+use contract.Monad.{fact, fact_i}
 use types.Kit.{Item, ‵, raw, mean, ◌⊛◌, some, later, Seq, Post, runs, ◌$◌, ◌∵◌, !, qed, move, keep, drop, use0, use1, use2, use3, split, join, pick, rewrite, fsplit, fjoin, fpick, fpack, frame, await, show, done}
 use types.Run.{Opds, look, init, stop, load, addr, and_then, assigns, land}
 use types.SemTy.{Body}
@@ -24,7 +24,6 @@ use denote.Steps.{owned, facts, heard, nothing}
 use denote.Struct.Laws as LL
 use denote.Triple.Statement.{Contract, Triple}
 use denote.Triple.Call.{calls_at}
-use denote.Triple.Walked.{says}
 use Rattle.rules.specs.declared.answer.Answer.{Answer}
 use Rattle.rules.specs.declared.call.Call.{Call}
 use Rattle.scheduler.specs.declared.scheduler.QoSScheduler.{QoSScheduler}
@@ -65,16 +64,23 @@ pub record Loan {M : Type 1} {𝓤 : Ura M} (𝓛 : Logic 𝓤) (s : QoSSchedule
   pub keeps : (ν : ℕ) (γ : GName) (a : Answer) →
       ent 𝓤 (Says ν γ a) (mean 𝓛 (some (λ (s' : QoSScheduler). ‵ (fres γ ((S.the_row).coded.code s')) ⊛ raw (fact 𝓤 (MeetsLent asked s a s')))))
 
--- what such a function is asked for, Rest being what its other arguments own; and what it says of what it leaves, beside what is Said of them
+-- what such a function is asked for, Rest being what its other arguments own and Asked what it requires, which can be had at any time as well; and
+-- what it says of what it leaves, beside what is Said of them
 module _ {M : Type 1} {𝓤 : Ura M} (𝓛 : Logic 𝓤) where
   open 𝓛 use {A}
 
+  pub loan_asks_for : (Rest : Fml) → ent 𝓤 (emp 𝓤) (sem 𝓛 Rest) → {Asked : SProp 𝓤} → ent 𝓤 (emp 𝓤) Asked → (b : ℕ) (s : QoSScheduler) (ν : ℕ) (γ : GName) →
+      ent 𝓤 (sep 𝓤 (A.lft (ν ∷ []) full_share) (sem 𝓛 ((MutRef (named 0) (ν ∷ []) S.the_row).own_val (reference_to b s γ) (vptr b zero ∷ []))))
+      (sep 𝓤 (sep 𝓤 (sep 𝓤 (A.lft (ν ∷ []) full_share) (emp 𝓤)) (sem 𝓛 (fsep ((MutRef (named 0) (ν ∷ []) S.the_row).own_val (reference_to b s γ) (vptr b zero ∷ [])) Rest))) Asked)
+  loan_asks_for Rest rest {Asked} had b s ν γ =
+      qed 𝓛 (‵ (flft (ν ∷ []) full_share) ∷ ‵ ((MutRef (named 0) (ν ∷ []) S.the_row).own_val (reference_to b s γ) (vptr b zero ∷ [])) ∷ []) ∵
+      nothing ! $ move ! (1 ∷ 0 ∷ []) $ join ! $ use0 𝓛 (‵ Rest) rest $ move ! (2 ∷ 0 ∷ []) $ fjoin ! $ move ! (1 ∷ 0 ∷ []) $ join ! $ frame ! $ use0 𝓛 (raw Asked) had $ done !
+
+  -- the same where what it requires is a fact
   pub loan_asks : (Rest : Fml) → ent 𝓤 (emp 𝓤) (sem 𝓛 Rest) → {φ : Type 0} → φ → (b : ℕ) (s : QoSScheduler) (ν : ℕ) (γ : GName) →
       ent 𝓤 (sep 𝓤 (A.lft (ν ∷ []) full_share) (sem 𝓛 ((MutRef (named 0) (ν ∷ []) S.the_row).own_val (reference_to b s γ) (vptr b zero ∷ []))))
       (sep 𝓤 (sep 𝓤 (sep 𝓤 (A.lft (ν ∷ []) full_share) (emp 𝓤)) (sem 𝓛 (fsep ((MutRef (named 0) (ν ∷ []) S.the_row).own_val (reference_to b s γ) (vptr b zero ∷ [])) Rest))) (fact 𝓤 φ))
-  loan_asks Rest rest holds b s ν γ =
-      qed 𝓛 (‵ (flft (ν ∷ []) full_share) ∷ ‵ ((MutRef (named 0) (ν ∷ []) S.the_row).own_val (reference_to b s γ) (vptr b zero ∷ [])) ∷ []) ∵
-      says ! holds $ nothing ! $ move ! (1 ∷ 0 ∷ []) $ join ! $ frame ! $ use0 𝓛 (‵ Rest) rest $ move ! (1 ∷ 0 ∷ []) $ fjoin ! $ done !
+  loan_asks Rest rest {φ} holds = loan_asks_for Rest rest (fact_i 𝓤 φ (emp 𝓤) holds)
 
   pub loan_keeps : {Others : Type 0} (Said : Others → Fml) (γ : GName) (φ : QoSScheduler → Type 0) →
       ent 𝓤 (mean 𝓛 (some (λ (ends : QoSScheduler × Others). ‵ (fsep (fres γ ((S.the_row).coded.code ends.0)) (Said ends.1)) ⊛ raw (fact 𝓤 (φ ends.0)))))

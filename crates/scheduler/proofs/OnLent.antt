@@ -15,7 +15,7 @@ use base.Fml.{Fml, Lft, Share, GName, ftrue, fsep, fat, froom, flft, fobs, fbor,
 use prog.Memory.{field_of}
 use prog.Wp.{Heap, Calls, Loops, Env, spot_of}
 use types.Logic.{Logic, sem}
-use contract.Monad.{fact}
+use contract.Monad.{fact, fact_i}
 use types.Kit.{Item, ‵, raw, mean, ⋆, ◌⊛◌, some, later, Seq, runs, frees, prop, at_ret, ◌$◌, ◌∵◌, !, qed, move, drop, use0, use1, split, join, pick, rewrite, fjoin, fjoin3, feq_i, frame, await, done}
 use types.Run.{Opds, look, look_raw, init, store_raw, forget, stop, hop, fld, from, load, of_opd, and_then, assigns, land, returns}
 use types.Part.{whole, sub, look_in}
@@ -153,12 +153,18 @@ pub record Method {M : Type 1} {𝓤 : Ura M} (𝓛 : Logic 𝓤) (s : QoSSchedu
   pub gives : (w v : Val) → ent 𝓤 (c.post (ghost w) v) (mean 𝓛 (later (some (λ (r : Reply). (‵ ftrue ⊛ ‵ ((R.the_row).own_val r (v ∷ []))) ⊛ raw (Says r)))))
   pub keeps : (r : Reply) → ent 𝓤 (Says r) (fact 𝓤 (Meets asked s r))
 
--- ---- what the method is asked for, and what is left at exit; Rest is what the other arguments own
+-- ---- what the method is asked for, and what is left at exit; Rest is what the other arguments own, and Asked what it requires, which can be had at
+-- any time as well
 module _ {M : Type 1} {𝓤 : Ura M} (𝓛 : Logic 𝓤) (Rest : Fml) (rest : ent 𝓤 (emp 𝓤) (sem 𝓛 Rest)) where
   open 𝓛 use {A}
 
+  pub asks_for : {Asked : SProp 𝓤} → ent 𝓤 (emp 𝓤) Asked → (s : QoSScheduler) (w : Val) → ent 𝓤 (sem 𝓛 ((S.the_row).own_val s (w ∷ []))) (sep 𝓤 (sep 𝓤 (emp 𝓤) (sem 𝓛 (fsep ((S.the_row).own_val s (w ∷ [])) Rest))) Asked)
+  asks_for {Asked} had s w =
+      qed 𝓛 (‵ ((S.the_row).own_val s (w ∷ [])) ∷ []) ∵ use0 𝓛 (‵ Rest) rest $ move ! (1 ∷ 0 ∷ []) $ fjoin ! $ nothing ! $ join ! $ frame ! $ use0 𝓛 (raw Asked) had $ done !
+
+  -- the same where what it requires is a fact
   pub asks : {φ : Type 0} → φ → (s : QoSScheduler) (w : Val) → ent 𝓤 (sem 𝓛 ((S.the_row).own_val s (w ∷ []))) (sep 𝓤 (sep 𝓤 (emp 𝓤) (sem 𝓛 (fsep ((S.the_row).own_val s (w ∷ [])) Rest))) (fact 𝓤 φ))
-  asks holds s w = qed 𝓛 (‵ ((S.the_row).own_val s (w ∷ [])) ∷ []) ∵ says ! holds $ nothing ! $ frame ! $ use0 𝓛 (‵ Rest) rest $ move ! (1 ∷ 0 ∷ []) $ fjoin ! $ done !
+  asks {φ} holds = asks_for (fact_i 𝓤 φ (emp 𝓤) holds)
 
   pub leaves : {φ : Type 0} → φ → (B : Borrow) (s : QoSScheduler) (a : Answer) (v : Val) → Is N.the_row a (v ∷ []) → ent 𝓤 (⋆ 𝓛 (closed_at 𝓤 B s []))
       (sep 𝓤 (sep 𝓤 (sep 𝓤 (A.lft B.κ B.q) (emp 𝓤)) (sep 𝓤 (sem 𝓛 (fsep ((MutRef (named 0) B.κ S.the_row).own_val (record { ref_ptr = (B.b, B.o); ghost_name = B.γ; now = s }) (vptr B.b B.o ∷ [])) Rest)) (sem 𝓛 ((N.the_row).own_val a (v ∷ []))))) (fact 𝓤 φ))

@@ -1,183 +1,197 @@
--- The calls on slots meet their contract: a law for each way out of the code. `s` is the scheduler that the call found, `r` what it gave back,
--- and `read` the record that it read. Assumes nothing.
-use Rattle.std.proofs.Common.{◌≡◌, ℕ, ◌+◌, ◌<◌, ◌≤◌, true, false, not, eqb, List, map, get_or, sym, refl, ap, ◌∙◌, arith, le-ltb, lt-ltb, le-leb}
-use borrow.Author.Tests.{lt-leb, not-false, not-true}
+-- The calls on slots, and what each comes to by what the code has read and stored: the record `t`, what it becomes, `u`, and the queues and
+-- holders as they are then. Assumes nothing.
+use Rattle.std.proofs.Common.{◌≡◌, ℕ, ◌<◌, ◌≤◌, Bool, true, false, cond, not, ltb, leb, List, map, refl, sym, ap, ◌∙◌, arith, lt-ltb, le-leb, le-ltb}
+use borrow.Author.Tests.{lt-leb, leb-true, leb-false}
+use borrow.Author.Rules.{rules}
+use denote.Enum.Bare.{sameb}
+use Rattle.std.specs.Prelude.{Option, None, Some, Result, Ok, Err, is_some}
+use Rattle.records.specs.contracts.state.ThreadState.{the_type}
 use Rattle.records.specs.declared.band.QoSClass.{QoSClass}
-use Rattle.records.specs.declared.error.SchedError.TheVariants.{TableFull, QueueFull, NoSuchTask, AlreadyReady, AlreadyBlocked, NotBlocked}
-use Rattle.records.specs.declared.ids.Slot.{Slot}
-use Rattle.records.specs.declared.ids.SlotOption.TheVariants as slot
+use Rattle.records.specs.declared.error.SchedError.{SchedError}
+use Rattle.records.specs.declared.error.SchedError.TheVariants.{TableFull, NoSuchTask, QueueFull, AlreadyReady, AlreadyBlocked, NotBlocked}
 use Rattle.records.specs.declared.ids.Tid.{Tid}
+use Rattle.records.specs.declared.state.ThreadState.{ThreadState}
 use Rattle.records.specs.declared.state.ThreadState.TheVariants.{Ready, Running, Blocked}
 use Rattle.records.specs.declared.task.TaskControlBlock.{TaskControlBlock}
-use Rattle.records.specs.Band.{IsBandCode}
-use Rattle.records.specs.Lists.{first_place}
 use Rattle.records.specs.Mask.{stored_mask}
+use Rattle.records.specs.Task.{created, with_mask, with_state, blocked, terminated}
 use Rattle.records.specs.ThreadState.{is_state}
-use Rattle.records.specs.Task.{created, with_state, with_mask, terminated, blocked}
-use Rattle.queue.specs.declared.BandQueue.{BandQueue}
-use Rattle.queue.specs.declared.Pushed.{Pushed}
-use Rattle.queue.specs.Promises.{Push}
-use Rattle.queue.specs.Stored.{entries}
-use Rattle.queue.specs.Entries.{full, without}
-use Rattle.queue.proofs.Entries.{takes-slot}
-use Rattle.rules.specs.declared.answer.Answer.{Answer}
-use Rattle.rules.specs.declared.answer.PickOption.TheVariants as pick
+use Rattle.records.proofs.Cases.{split, neither}
+use Rattle.queue.specs.Entries.{full, push_result, pushed, without}
 use Rattle.rules.specs.declared.answer.Value.TheVariants as value
-use Rattle.rules.specs.declared.call.Call.TheVariants.{Create, Affinity, Terminate, Block, Wake, Enqueue}
-use Rattle.scheduler.specs.declared.scheduler.QoSScheduler.{QoSScheduler}
-use Rattle.scheduler.specs.declared.scheduler.Reply.{Reply}
-use Rattle.rules.specs.State.{task, queue, each_queue}
-use Rattle.rules.specs.Outcome.{answered}
-use Rattle.scheduler.specs.Scheduler.{queues_of, abs, Valid, Meets, HoldsQueues}
-use Rattle.scheduler.specs.Private.{refused_by}
-use Rattle.rules.specs.Waking.{free_slot, create, released, affinity, terminate, missing, block, wake, enqueue}
-use Rattle.scheduler.proofs.Promises.{meets_done, meets_refused, meets_as}
-use Rattle.scheduler.proofs.Arrays.{slots, record_at_lem, queue_at_lem}
-use Rattle.scheduler.proofs.Builders.{put_task, put_queue, put_queues, put_holders, as_found, put_task_lem, put_queues_lem, put_holders_lem, put_tail}
-use Rattle.scheduler.proofs.Searches.{search_on, search_found}
+use Rattle.rules.specs.Outcome.{done, refused}
+use Rattle.rules.specs.Queries.{task_at, core_below}
+use Rattle.rules.specs.State.{State, Queues, task, queue, with_band, each_queue, with_task, with_queues, with_holders}
+use Rattle.rules.specs.Waking.{missing, released, core_holding, is_held, free_slot, create, affinity, terminate, block, wake, enqueue}
+use Rattle.scheduler.specs.Private.{in_use_at}
 
--- ---- a slot of 64 and above
+-- ---- what is known of an option that a test chose
 
-module _ {s : QoSScheduler} (v : Valid s) {slot : Slot} {r : Reply} (past : 64 ≤ slot.0) (is : r ≡ refused_by s NoSuchTask) where
-  pub affinity_past : {mask : ℕ} → Meets (Affinity slot mask) s r
-  unfolding affinity
-  affinity_past = meets_refused v NoSuchTask is (rw (le-leb 64 slot.0 past) refl)
+none_if : {A : Type 0} (a : A) (b : Bool) → None ≡ cond b None (Some a) → b ≡ true
+none_if a true e = refl
+none_if a false e = let never : ◌≡◌ {A = ℕ} 0 1 = cc in absurd (omega arith)
 
-  pub terminate_past : Meets (Terminate slot) s r
-  unfolding terminate
-  terminate_past = meets_refused v NoSuchTask is (rw (le-leb 64 slot.0 past) refl)
+some_if : {A : Type 0} {a r : A} (b : Bool) → Some r ≡ cond b None (Some a) → (b ≡ false) × (r ≡ a)
+some_if true e = let never : ◌≡◌ {A = ℕ} 0 1 = cc in absurd (omega arith)
+some_if false e = (refl, cc)
 
-  pub block_past : Meets (Block slot) s r
-  unfolding block
-  block_past = meets_refused v NoSuchTask is (rw (le-leb 64 slot.0 past) refl)
+-- the place that a search through 64 found
+pub found_none : (place : ℕ) → None ≡ core_below place → 64 ≤ place
+found_none place e = leb-true 64 place (none_if place (leb 64 place) e)
 
-  pub wake_past : Meets (Wake slot) s r
-  unfolding wake
-  wake_past = meets_refused v NoSuchTask is (rw (le-leb 64 slot.0 past) refl)
+pub found_some : (place : ℕ) {k : ℕ} → Some k ≡ core_below place → (place ≡ k) × (k < 64)
+found_some place e = let r = some_if (leb 64 place) e in (sym r.1, omega (arith, leb-false 64 place r.0, r.1))
 
-  pub enqueue_past : Meets (Enqueue slot) s r
-  unfolding enqueue
-  enqueue_past = meets_refused v NoSuchTask is (rw (le-leb 64 slot.0 past) refl)
+-- ---- two states compared
 
--- ---- a slot of the table
+sameb-is : (one other : ThreadState) → sameb the_type one other ≡ is_state one other
+sameb-is one other = search rules
 
--- a Blocked task that no core holds is woken as it is enqueued
-pub wake_as_enqueue : (s : QoSScheduler) (slot : ℕ) → slot < 64 → not (task (abs s) slot).in_use ≡ false → is_state (task (abs s) slot).state Blocked ≡ true
-    → 64 ≤ first_place (λ (h : ℕ). eqb h slot) (abs s).holders → wake slot (abs s) ≡ enqueue slot (abs s)
-unfolding wake
-wake_as_enqueue s slot low used so none =
-    rw (lt-leb 64 slot low) (rw used (rw so (rw (le-ltb (first_place (λ (h : ℕ). eqb h slot) (abs s).holders) 64 none) refl)))
+pub so : (one other : ThreadState) {b : Bool} → b ≡ sameb the_type one other → is_state one other ≡ b
+so one other is = sym (is ∙ sameb-is one other)
 
-module _ {s : QoSScheduler} (v : Valid s) {slot : Slot} (d : TaskControlBlock) (low : slot.0 < 64) where
-  abbrev read : TaskControlBlock
-  read = get_or s.tasks slot.0 d
+pub so_not : (one other : ThreadState) {b : Bool} → b ≡ not (sameb the_type one other) → not (is_state one other) ≡ b
+so_not one other is = sym (is ∙ ap not (sameb-is one other))
 
-  read_is : read ≡ task (abs s) slot.0
-  read_is = record_at_lem s v slot.0 d low
+-- ---- whether a core holds the slot
 
-  pub affinity_done : {mask : ℕ} {a : Answer} {t : TaskControlBlock} → t ≡ with_mask read (stored_mask mask) → a ≡ answered pick.None value.Nothing →
-      Meets (Affinity slot mask) s (record { answer = a; state = put_task s slot.0 t })
-  unfolding affinity abs
-  affinity_done t-is a-is = meets_done v (put_task_lem (as_found v) slot.0 t-is) a-is (rw (lt-leb 64 slot.0 low) (rw (sym read_is) refl))
+some-is : (n : ℕ) → is_some (core_below n) ≡ ltb n 64
+some-is n =
+    split (λ (b : Bool). is_some (cond b None (Some n)) ≡ ltb n 64) (leb 64 n)
+    (λ past. sym (le-ltb n 64 (leb-true 64 n past)))
+    (λ low. sym (lt-ltb n 64 (leb-false 64 n low)))
 
-  pub terminate_done : {a : Answer} {t : TaskControlBlock} {qs : List BandQueue} {hs : List ℕ} → t ≡ terminated read →
-      HoldsQueues qs (each_queue (without slot.0) (queues_of s.queues)) → hs ≡ map (released slot.0) s.current → a ≡ answered pick.None value.Nothing →
-      Meets (Terminate slot) s (record { answer = a; state = put_holders (put_queues (put_task s slot.0 t) qs) hs })
-  unfolding terminate abs
-  terminate_done t-is out hs-is a-is =
-      meets_done v (put_holders_lem (put_queues_lem (put_task_lem (as_found v) slot.0 t-is) out) hs-is) a-is (rw (lt-leb 64 slot.0 low) (rw (sym read_is) refl))
-
-  free_missing : not read.in_use ≡ true → missing (abs s) slot.0 ≡ true
-  free_missing free = rw (lt-leb 64 slot.0 low) (rw (sym read_is) (rw free refl))
-
-  module _ {r : Reply} (free : not read.in_use ≡ true) (is : r ≡ refused_by s NoSuchTask) where
-    pub block_free : Meets (Block slot) s r
-    unfolding block
-    block_free = meets_refused v NoSuchTask is (rw (free_missing free) refl)
-
-    pub wake_free : Meets (Wake slot) s r
-    unfolding wake
-    wake_free = meets_refused v NoSuchTask is (rw (free_missing free) refl)
-
-    pub enqueue_free : Meets (Enqueue slot) s r
-    unfolding enqueue
-    enqueue_free = meets_refused v NoSuchTask is (rw (free_missing free) refl)
-
-  module _ (used : not read.in_use ≡ false) where
-    there : missing (abs s) slot.0 ≡ false
-    there = rw (lt-leb 64 slot.0 low) (rw (sym read_is) (rw used refl))
-
-    pub block_again : {r : Reply} → is_state read.state Blocked ≡ true → r ≡ refused_by s AlreadyBlocked → Meets (Block slot) s r
-    unfolding block
-    block_again so is = meets_refused v AlreadyBlocked is (rw there (rw (sym read_is) (rw so refl)))
-
-    pub block_done : {a : Answer} {t : TaskControlBlock} {qs : List BandQueue} → is_state read.state Blocked ≡ false →
-        HoldsQueues qs (each_queue (without slot.0) (queues_of s.queues)) → t ≡ blocked read → a ≡ answered pick.None value.Nothing →
-        Meets (Block slot) s (record { answer = a; state = put_task (put_queues s qs) slot.0 t })
-    unfolding block abs
-    block_done so out t-is a-is =
-        meets_done v (put_task_lem (put_queues_lem (as_found v) out) slot.0 t-is) a-is (rw there (rw (sym read_is) (rw so refl)))
-
-    pub wake_other : {r : Reply} → is_state read.state Blocked ≡ false → r ≡ refused_by s NotBlocked → Meets (Wake slot) s r
-    unfolding wake
-    wake_other so is = meets_refused v NotBlocked is (rw there (rw (sym read_is) (rw so refl)))
-
-    module _ (so : is_state read.state Blocked ≡ true) {core : ℕ} (core_is : core ≡ first_place (λ (h : ℕ). eqb h slot.0) s.current) where
-      pub wake_queued : {r : Reply} → 64 ≤ core → Meets (Enqueue slot) s r → Meets (Wake slot) s r
-      unfolding abs
-      wake_queued none m = meets_as m (wake_as_enqueue s slot.0 low (rw (sym read_is) used) (rw (sym read_is) so) (rw (sym core_is) none))
-
-      pub wake_held : {a : Answer} {t : TaskControlBlock} → core < 64 → t ≡ with_state read Running → a ≡ answered pick.None value.Nothing →
-          Meets (Wake slot) s (record { answer = a; state = put_task s slot.0 t })
-      unfolding wake abs
-      wake_held held t-is a-is =
-          meets_done v (put_task_lem (as_found v) slot.0 t-is) a-is (rw there (rw (sym read_is) (rw so (rw (sym core_is) (rw (lt-ltb core 64 held) refl)))))
-
-    pub enqueue_again : {r : Reply} → is_state read.state Ready ≡ true → r ≡ refused_by s AlreadyReady → Meets (Enqueue slot) s r
-    unfolding enqueue
-    enqueue_again so is = meets_refused v AlreadyReady is (rw there (rw (sym read_is) (rw so refl)))
-
-    module _ (so : is_state read.state Ready ≡ false) {n : ℕ} (code : IsBandCode read.qos n) (dq : BandQueue) {p : Pushed}
-        (push : Push (get_or s.queues n dq) slot p) where
-      abbrev es : List ℕ
-      es = queue (abs s) read.qos
-
-      -- a push is taken exactly where 64 entries do not stand in the queue
-      ok_is : p.ok ≡ not (full es)
-      ok_is =
-          push.ok_is ∙ takes-slot slot.0 (entries (get_or s.queues n dq)) low
-          ∙ ap (λ (l : List ℕ). not (full l)) (queue_at_lem v read.qos code.is dq)
-
-      pub enqueue_full : {r : Reply} → p.ok ≡ false → r ≡ refused_by s QueueFull → Meets (Enqueue slot) s r
-      unfolding enqueue
-      enqueue_full not-ok is = meets_refused v QueueFull is (rw there (rw (sym read_is) (rw so (rw (not-false (full es) (sym ok_is ∙ not-ok)) refl))))
-
-      pub enqueue_done : {a : Answer} {t : TaskControlBlock} → p.ok ≡ true → t ≡ with_state read Ready → a ≡ answered pick.None value.Nothing →
-          Meets (Enqueue slot) s (record { answer = a; state = put_task (put_queue s n p.queue) slot.0 t })
-      unfolding enqueue abs
-      enqueue_done ok t-is a-is =
-          let test : full es ≡ false = not-true (full es) (sym ok_is ∙ ok) in
-          meets_done v (put_tail (as_found v) slot read_is code dq push (λ (r : TaskControlBlock). with_state r Ready) t-is) a-is
-          (rw there (rw (sym read_is) (rw so (rw test refl))))
+pub held_is : (s : State) (slot : ℕ) {o : Option ℕ} {b : Bool} → o ≡ core_below (core_holding s slot) → is_some o ≡ b → is_held s slot ≡ b
+held_is s slot o-is is = sym (ap is_some o-is ∙ some-is (core_holding s slot)) ∙ is
 
 -- ---- create
 
-module _ {s : QoSScheduler} (v : Valid s) (free : ℕ) (so_far : free ≤ free_slot (abs s)) where
-  -- slot `free` is in use: on to the next
-  pub create_on : (d : TaskControlBlock) → free < 64 → not (get_or s.tasks free d).in_use ≡ false → free + 1 ≤ free_slot (abs s)
-  unfolding abs
-  create_on d low used = search_on (λ (t : TaskControlBlock). not t.in_use) s.tasks free d so_far (omega (arith, slots s v)) used
-
-  pub create_full : {tid : Tid} {qos : QoSClass} {context cr3 rsp0 : ℕ} {r : Reply} → 64 ≤ free → r ≡ refused_by s TableFull →
-      Meets (Create tid qos context cr3 rsp0) s r
+module _ (s : State) (tid : Tid) (band : QoSClass) (context cr3 rsp0 : ℕ) where
+  pub create_full : None ≡ core_below (free_slot s) → create tid band context cr3 rsp0 s ≡ refused TableFull s
   unfolding create
-  create_full past is = meets_refused v TableFull is (rw (le-leb 64 (free_slot (abs s)) (omega arith)) refl)
+  create_full none = rw (le-leb 64 (free_slot s) (found_none (free_slot s) none)) refl
 
-  pub create_done : {tid : Tid} {qos : QoSClass} {context cr3 rsp0 : ℕ} {a : Answer} {t : TaskControlBlock} → free < 64 → (d : TaskControlBlock) →
-      not (get_or s.tasks free d).in_use ≡ true →
-      t ≡ created tid qos context cr3 rsp0 → a ≡ answered pick.None (value.Slot (slot.Some (record { 0 = free }))) →
-      Meets (Create tid qos context cr3 rsp0) s (record { answer = a; state = put_task s free t })
-  unfolding create abs
-  create_done low d is t-is a-is =
-      let found : free_slot (abs s) ≡ free = search_found (λ (t : TaskControlBlock). not t.in_use) s.tasks free d so_far (omega (arith, slots s v)) is in
-      meets_done v (put_task_lem (as_found v) free t-is) a-is (rw found (rw (lt-leb 64 free low) refl))
+  pub create_done : {free : ℕ} {u : TaskControlBlock} → Some free ≡ core_below (free_slot s) → u ≡ created tid band context cr3 rsp0 →
+      create tid band context cr3 rsp0 s ≡ done (value.Slot (Some (record { 0 = free }))) (with_task s free u)
+  unfolding create
+  create_done {free} some u-is =
+      let r = found_some (free_slot s) some in rw (r.0, u-is) (rw (lt-leb 64 free r.1) refl)
+
+-- ---- a slot that is named
+
+module _ (s : State) (slot : ℕ) where
+  slot_past : None ≡ task_at slot s → leb 64 slot ≡ true
+  unfolding task_at
+  slot_past is = none_if _ (leb 64 slot) is
+
+  slot_read : {t : TaskControlBlock} → Some t ≡ task_at slot s → (leb 64 slot ≡ false) × (t ≡ task s slot)
+  unfolding task_at
+  slot_read is = some_if (leb 64 slot) is
+
+  pub slot_low : {t : TaskControlBlock} → Some t ≡ task_at slot s → slot < 64
+  slot_low is = leb-false 64 slot (slot_read is).0
+
+  pub affinity_past : (mask : ℕ) → None ≡ task_at slot s → affinity slot mask s ≡ refused NoSuchTask s
+  unfolding affinity
+  affinity_past mask none = rw (slot_past none) refl
+
+  pub affinity_done : (mask : ℕ) {t u : TaskControlBlock} → Some t ≡ task_at slot s → u ≡ with_mask t (stored_mask mask) →
+      affinity slot mask s ≡ done value.Nothing (with_task s slot u)
+  unfolding affinity
+  affinity_done mask read u-is = rw ((slot_read read).0, u-is, (slot_read read).1) refl
+
+  pub terminate_past : None ≡ task_at slot s → terminate slot s ≡ refused NoSuchTask s
+  unfolding terminate
+  terminate_past none = rw (slot_past none) refl
+
+  pub terminate_done : {t u : TaskControlBlock} {q : Queues} {hs : List ℕ} → Some t ≡ task_at slot s → u ≡ terminated t →
+      q ≡ each_queue (without slot) s.queues → hs ≡ map (released slot) s.holders →
+      terminate slot s ≡ done value.Nothing (with_task (with_holders (with_queues s q) hs) slot u)
+  unfolding terminate
+  terminate_done read u-is q-is hs-is = rw ((slot_read read).0, u-is, (slot_read read).1, q-is, hs-is) refl
+
+  -- ---- a slot in use
+
+  not_used : None ≡ in_use_at slot s → missing s slot ≡ true
+  not_used is = none_if _ (missing s slot) is
+
+  used : {t : TaskControlBlock} → Some t ≡ in_use_at slot s → (missing s slot ≡ false) × (t ≡ task s slot)
+  used is = some_if (missing s slot) is
+
+  pub block_missing : None ≡ in_use_at slot s → block slot s ≡ refused NoSuchTask s
+  unfolding block
+  block_missing none = rw (not_used none) refl
+
+  pub wake_missing : None ≡ in_use_at slot s → wake slot s ≡ refused NoSuchTask s
+  unfolding wake
+  wake_missing none = rw (not_used none) refl
+
+  pub enqueue_missing : None ≡ in_use_at slot s → enqueue slot s ≡ refused NoSuchTask s
+  unfolding enqueue
+  enqueue_missing none = rw (not_used none) refl
+
+  push_refused : slot < 64 → (es : List ℕ) {e : SchedError} → Err e ≡ push_result slot es → (full es ≡ true) × (e ≡ QueueFull)
+  push_refused low es {e} answer =
+      split (λ (b : Bool). ◌≡◌ {A = Result Unit SchedError} (Err e) (cond b (Err QueueFull) (Ok tt)) → (b ≡ true) × (e ≡ QueueFull)) (full es)
+      (λ _ same. (refl, cc))
+      (λ _ same. let never : ◌≡◌ {A = ℕ} 0 1 = cc in absurd (omega arith))
+      (answer ∙ ap (λ (b : Bool). cond b (cond (full es) (Err QueueFull) (Ok tt)) (Err NoSuchTask)) (lt-ltb slot 64 low))
+
+  push_done : slot < 64 → (es : List ℕ) {x : Unit} → Ok x ≡ push_result slot es → full es ≡ false
+  push_done low es {x} answer =
+      split (λ (b : Bool). ◌≡◌ {A = Result Unit SchedError} (Ok x) (cond b (Err QueueFull) (Ok tt)) → b ≡ false) (full es)
+      (λ _ same. let never : ◌≡◌ {A = ℕ} 0 1 = cc in absurd (omega arith))
+      (λ _ same. refl)
+      (answer ∙ ap (λ (b : Bool). cond b (cond (full es) (Err QueueFull) (Ok tt)) (Err NoSuchTask)) (lt-ltb slot 64 low))
+
+  module _ {t : TaskControlBlock} (read : Some t ≡ in_use_at slot s) where
+    here : missing s slot ≡ false
+    here = (used read).0
+
+    pub low : slot < 64
+    low = leb-false 64 slot (neither (leb 64 slot) (not (task s slot).in_use) here).0
+
+    read_is : task s slot ≡ t
+    read_is = sym (used read).1
+
+    pub block_again : true ≡ sameb the_type t.state Blocked → block slot s ≡ refused AlreadyBlocked s
+    unfolding block
+    block_again is = rw (here, read_is, so t.state Blocked is) refl
+
+    pub block_done : false ≡ sameb the_type t.state Blocked → {q : Queues} {u : TaskControlBlock} →
+        q ≡ each_queue (without slot) s.queues → u ≡ blocked t →
+        block slot s ≡ done value.Nothing (with_task (with_queues s q) slot u)
+    unfolding block
+    block_done is q-is u-is = rw (here, read_is, so t.state Blocked is, q-is, u-is) refl
+
+    pub wake_awake : true ≡ not (sameb the_type t.state Blocked) → wake slot s ≡ refused NotBlocked s
+    unfolding wake
+    wake_awake is = rw (here, read_is, so_not t.state Blocked is) refl
+
+    -- a Blocked task that no core holds is woken as it is enqueued
+    pub wake_free : false ≡ not (sameb the_type t.state Blocked) → is_held s slot ≡ false → wake slot s ≡ enqueue slot s
+    unfolding wake
+    wake_free is free = rw (here, read_is, so_not t.state Blocked is, free) refl
+
+    pub wake_held : false ≡ not (sameb the_type t.state Blocked) → is_held s slot ≡ true → {u : TaskControlBlock} → u ≡ with_state t Running →
+        wake slot s ≡ done value.Nothing (with_task s slot u)
+    unfolding wake
+    wake_held is held u-is = rw (here, read_is, so_not t.state Blocked is, held, u-is) refl
+
+    pub enqueue_again : true ≡ sameb the_type t.state Ready → enqueue slot s ≡ refused AlreadyReady s
+    unfolding enqueue
+    enqueue_again is = rw (here, read_is, so t.state Ready is) refl
+
+    -- a push answers as an enqueue does
+    pub enqueue_full : false ≡ sameb the_type t.state Ready → {e : SchedError} → Err e ≡ push_result slot (queue s t.qos) →
+        enqueue slot s ≡ refused e s
+    unfolding enqueue
+    enqueue_full is answer =
+        let full-is = push_refused low (queue s t.qos) answer in rw (here, read_is, so t.state Ready is, full-is.0, full-is.1) refl
+
+    pub enqueue_done : false ≡ sameb the_type t.state Ready → {x : Unit} {q : Queues} {u : TaskControlBlock} →
+        Ok x ≡ push_result slot (queue s t.qos) →
+        q ≡ with_band s.queues t.qos (pushed slot (queue s t.qos)) → u ≡ with_state t Ready →
+        enqueue slot s ≡ done value.Nothing (with_task (with_queues s q) slot u)
+    unfolding enqueue
+    enqueue_done is answer q-is u-is = rw (here, read_is, so t.state Ready is, push_done low (queue s t.qos) answer, q-is, u-is) refl

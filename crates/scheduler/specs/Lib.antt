@@ -1,6 +1,8 @@
 -- The stored scheduler, and what its calls promise.
 --
---   Scheduler   what a stored scheduler holds, which ones are valid, and what every call promises of it
+--   Stored      what the parts of a stored scheduler hold
+--   Scheduler   what a stored scheduler holds, and what every call promises of it
 --   Private     what the private functions promise
+pub mod Stored
 pub mod Scheduler
 pub mod Private

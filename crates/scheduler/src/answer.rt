@@ -3,14 +3,14 @@ ghost use Rattle.std.specs.Prelude.{◌≡◌};
 ghost use Rattle.rules.specs.Outcome.{answered, refusal};
 
 use records::SchedError;
-use rules::{Answer, PickOption, Status, Value};
+use rules::{Answer, Pick, Value};
 
 // Done, with the pick made and a value.
-pub(crate) fn done(pick: PickOption, value: Value) -> Answer
+pub(crate) fn done(pick: Option<Pick>, value: Value) -> Answer
     ensures { result ≡ answered pick value }
 {
     Answer {
-        status: Status::Done,
+        status: Ok(()),
         pick,
         value,
     }
@@ -21,8 +21,8 @@ pub(crate) fn refused(error: SchedError) -> Answer
     ensures { result ≡ refusal error }
 {
     Answer {
-        status: Status::Refused(error),
-        pick: PickOption::None,
+        status: Err(error),
+        pick: None,
         value: Value::Nothing,
     }
 }

@@ -8,10 +8,10 @@
 //   lent        block and tick on a lent state, which they change
 //   answer      the two kinds of answer
 //
-// Every call presumes only `Valid`: the scheduler came from `new`, an accepted image or an earlier call. It answers for all
-// arguments, and ensures `Meets`: the whole answer and the whole state are what document 01's rule for it makes, and the
-// scheduler that it gives back, or leaves behind the reference, is valid again. The rules, with `Call` and `Answer` and
-// their parts, are the crate below; these types are handed on here.
+// Every scheduler came from `new`, an accepted image or an earlier call: its ghost fields say that what it holds is accepted.
+// So a call presumes nothing. It answers for all arguments, and ensures `Meets`: the whole answer and the whole state are what
+// document 01's rule for it makes. The rules, with `Call` and `Answer` and their parts, are the crate below; these types are
+// handed on here.
 #![tactic(auto)]
 
 mod answer;
@@ -22,8 +22,5 @@ mod scheduler;
 mod ticking;
 mod waking;
 
-pub use rules::{
-    Answer, Call, ContextSwitchPlan, ContextSwitchTarget, CoreOption, Pick, PickOption, PlanOption,
-    Status, TaskOption, Value,
-};
+pub use rules::{Answer, Call, ContextSwitchPlan, ContextSwitchTarget, Pick, Value};
 pub use scheduler::{NO_HOLDER, QoSScheduler, Reply};

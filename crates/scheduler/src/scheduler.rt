@@ -1,18 +1,19 @@
 // The scheduler's state, by value: its parts, the new one, and `apply`, which does any call.
-ghost use Rattle.std.specs.Prelude.{◌≡◌};
-ghost use Rattle.scheduler.specs.Scheduler.{Valid, IsNew, Meets};
-ghost use Rattle.scheduler.specs.Private.{told_by, refused_by};
+ghost use Rattle.std.specs.Prelude.{◌≡◌, true, length};
+ghost use Rattle.rules.specs.Accepted.{accepts};
 ghost use Rattle.rules.specs.State.{holder_in};
+ghost use Rattle.scheduler.specs.Stored.{state_of};
 
 use crate::answer::{done, refused};
 use crate::picking::Form;
 use queue::BandQueue;
-use records::{BAND_COUNT, MAX_CPUS, MAX_TASKS, SchedError, Slot, SlotOption, TaskControlBlock};
-use rules::{Answer, Call, PickOption, Value};
+use records::{BAND_COUNT, MAX_CPUS, MAX_TASKS, SchedError, Slot, TaskControlBlock};
+use rules::{Answer, Call, Value};
 
-// What stands for none in a core's holder.
+// What stands for none in a core's holder: document 01's number in a byte, as the image has it. An Option would take two bytes a core.
 pub const NO_HOLDER: u8 = 255;
 
+// Every scheduler that there is came from `new`, an accepted image or an earlier call: what it holds is accepted.
 #[derive(Clone, Copy)]
 pub struct QoSScheduler {
     // A record for each slot.
@@ -23,6 +24,8 @@ pub struct QoSScheduler {
     pub current: [u8; MAX_CPUS],
     // The time that ticks have reported, going on from 0 past the largest.
     pub system_ticks_us: u64,
+    pub ghost bands: { length queues ≡ 3 },
+    pub ghost accepted: { accepts (state_of tasks queues current system_ticks_us) ≡ true },
 }
 
 // What a call gives back: its answer, and the state after it.
@@ -33,9 +36,14 @@ pub struct Reply {
 }
 
 impl QoSScheduler {
+    ghost use Rattle.std.specs.Prelude.{◌≡◌};
+    ghost use Rattle.rules.specs.State.{new_state};
+    ghost use Rattle.scheduler.specs.Scheduler.{Meets, abs};
+    ghost use Rattle.scheduler.specs.Private.{told_by, refused_by};
+
     // No task, nobody waiting, no core with a holder, and no time gone by.
     pub fn new() -> Self
-        ensures { IsNew result }
+        ensures { abs result ≡ new_state }
     {
         QoSScheduler {
             tasks: [TaskControlBlock::EMPTY; MAX_TASKS],
@@ -48,7 +56,6 @@ impl QoSScheduler {
     // Any call or query. The cores' reports, which are nearly all calls, are looked for first: what the code of the others
     // needs would have each of them begin with a copy of the state.
     pub fn apply(self, call: Call) -> Reply
-        requires { Valid self }
         ensures { Meets call self result }
     {
         match call {
@@ -58,9 +65,10 @@ impl QoSScheduler {
         }
     }
 
-    // Any call or query, as the method for it does it. A query leaves the state as it was.
+    // Any call or query, as the method for it does it. A query leaves the state as it was. It has a frame of its own on the
+    // stack, so that a report does not need the room of the other calls as well.
+    #[inline(never)]
     fn apply_any(self, call: Call) -> Reply
-        requires { Valid self }
         ensures { Meets call self result }
     {
         match call {
@@ -97,7 +105,7 @@ impl QoSScheduler {
         ensures { result ≡ told_by self value }
     {
         Reply {
-            answer: done(PickOption::None, value),
+            answer: done(None, value),
             state: self,
         }
     }
@@ -114,11 +122,11 @@ impl QoSScheduler {
 }
 
 // The slot that a core's number stands for.
-pub(crate) fn holder_of(number: u8) -> SlotOption
+pub(crate) fn holder_of(number: u8) -> Option<Slot>
     ensures { result ≡ holder_in number }
 {
     if number == NO_HOLDER {
-        return SlotOption::None;
+        return None;
     }
-    SlotOption::Some(Slot(number as usize))
+    Some(Slot(number as usize))
 }

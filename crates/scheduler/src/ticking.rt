@@ -1,5 +1,5 @@
 // Tick, yield, handoff and plan.
-ghost use Rattle.scheduler.specs.Scheduler.{Valid, Meets, abs};
+ghost use Rattle.scheduler.specs.Scheduler.{Meets, abs};
 ghost use Rattle.scheduler.specs.Private.{Gives, answer_in};
 ghost use Rattle.rules.specs.State.{holder_of};
 ghost use Rattle.rules.specs.Ticking.{ticked, waits_before};
@@ -7,13 +7,12 @@ ghost use Rattle.std.specs.Prelude.{◌≡◌};
 
 use crate::picking::{Form, choice_answer, who_runs};
 use crate::scheduler::{NO_HOLDER, QoSScheduler, Reply, holder_of};
-use records::{MAX_CPUS, QoSClass, SchedError, SlotOption, ThreadState, mask_permits};
-use rules::{Call, PickOption, PlanOption, Value};
+use records::{MAX_CPUS, QoSClass, SchedError, ThreadState};
+use rules::{Call, Value};
 
 impl QoSScheduler {
     // A tick of core 0.
     pub fn on_timer_tick(self, elapsed_us: u32) -> Reply
-        requires { Valid self }
         ensures { Meets (Call.Tick 0 elapsed_us) self result }
     {
         self.on_timer_tick_on_cpu(0, elapsed_us)
@@ -23,7 +22,6 @@ impl QoSScheduler {
     // over, or for whom a task of an earlier band waits that may use the core, goes back to its queue. Answered by who
     // is to run on the core; for a core of 64 and above by none, and nothing changes.
     pub fn on_timer_tick_on_cpu(self, core: usize, elapsed_us: u32) -> Reply
-        requires { Valid self }
         ensures { Meets (Call.Tick core elapsed_us) self result }
     {
         self.ticked(core, elapsed_us, Form::Slot)
@@ -32,101 +30,78 @@ impl QoSScheduler {
     // The tick, told as a slot or as a plan from the holder that the core had. The queue has room for the holder: 64
     // entries would be 64 Ready slots, and it is not Ready when it is pushed.
     pub(crate) fn ticked(mut self, core: usize, elapsed_us: u32, form: Form) -> Reply
-        requires { Valid self }
         ensures { Gives (answer_in form (holder_of (abs self) core) (ticked core elapsed_us (abs self))) result }
     {
-        let now = std::num::wrapping_add_u64(self.system_ticks_us, elapsed_us as u64);
+        let now = self.system_ticks_us.wrapping_add(elapsed_us as u64);
         if core >= MAX_CPUS {
-            return self.told(who_runs(form, SlotOption::None, SlotOption::None, 0));
+            return self.told(who_runs(form, None, None, 0));
         }
         self.system_ticks_us = now;
         let previous = holder_of(self.current[core]);
-        let SlotOption::Some(slot) = previous else {
+        let Some(slot) = previous else {
             return self.pick(core, form, previous);
         };
-        let index = slot.0;
-        let task = self.tasks[index];
-        let state = task.state;
-        let qos = task.qos;
-        if state.is(ThreadState::Blocked) {
+        let task = self.tasks[slot.0];
+        if task.state == ThreadState::Blocked {
             self.current[core] = NO_HOLDER;
             return self.pick(core, form, previous);
         }
         let charged = task.consumed_slice_us as u64 + elapsed_us as u64;
-        if charged < task.slice_budget_us as u64 && !self.waits_before(qos, core) {
-            self.tasks[index] = task.with_consumed(charged as u32);
+        if charged < task.slice_budget_us as u64 && !self.waits_before(task.qos, core) {
+            self.tasks[slot.0] = task.with_consumed(charged as u32);
             return Reply {
-                answer: choice_answer(PickOption::None, form, previous, previous, task.cr3),
+                answer: choice_answer(None, form, previous, previous, task.cr3),
                 state: self,
             };
         }
-        if state.is(ThreadState::Ready) {
-            self.tasks[index] = task.with_consumed(0);
+        if task.state == ThreadState::Ready {
+            self.tasks[slot.0] = task.with_consumed(0);
             return self.pick(core, form, previous);
         }
-        let band = qos.code() as usize;
-        let pushed = self.queues[band].push(slot);
-        let queue = pushed.queue;
+        let band = task.qos.code() as usize;
+        let mut queue = self.queues[band];
+        let _ = queue.push(slot);
         self.queues[band] = queue;
-        self.tasks[index] = task.with_consumed(0).with_state(ThreadState::Ready);
+        self.tasks[slot.0] = task.with_consumed(0).with_state(ThreadState::Ready);
         self.pick(core, form, previous)
     }
 
     // Whether an entry that may use the core waits in an earlier band.
     fn waits_before(&self, qos: QoSClass, core: usize) -> bool
-        requires { Valid self.now }
         ensures { result ≡ waits_before qos (abs self.now) core }
     {
-        let own = qos.code() as usize;
-        let mut band = 0;
-        let mut place = 0;
-        while band < own {
-            let queue = self.queues[band];
-            let entry = queue.entry_at(place);
-            match entry {
-                SlotOption::None => {
-                    band += 1;
-                    place = 0;
-                }
-                SlotOption::Some(slot) => {
-                    let index = slot.0;
-                    let task = self.tasks[index];
-                    if mask_permits(task.cpu_affinity, core) {
-                        return true;
-                    }
-                    place += 1;
-                }
+        match qos {
+            QoSClass::UserInteractive => false,
+            QoSClass::RealTimeIO => self.has_ready_on_core(QoSClass::UserInteractive, core),
+            QoSClass::Background => {
+                self.has_ready_on_core(QoSClass::UserInteractive, core)
+                    || self.has_ready_on_core(QoSClass::RealTimeIO, core)
             }
         }
-        false
     }
 
     // The core's Running holder goes to the tail of its band, then a pick; a core without a holder only picks. No time
     // is charged. Refused for a core of 64 and above, and where the holder is not Running.
     pub fn plan_voluntary_yield_on_cpu(mut self, core: usize) -> Reply
-        requires { Valid self }
         ensures { Meets (Call.Yield core) self result }
     {
         if core >= MAX_CPUS {
             return self.refused(SchedError::NoSuchTask);
         }
         let previous = holder_of(self.current[core]);
-        let SlotOption::Some(slot) = previous else {
+        let Some(slot) = previous else {
             return self.pick(core, Form::Plan, previous);
         };
-        let index = slot.0;
-        let task = self.tasks[index];
-        let state = task.state;
-        if !state.is(ThreadState::Running) {
+        let task = self.tasks[slot.0];
+        if task.state != ThreadState::Running {
             return self.refused(SchedError::NoSuchTask);
         }
-        let qos = task.qos;
-        let band = qos.code() as usize;
         // There is room, as in a tick.
-        let pushed = self.queues[band].push(slot);
-        let queue = pushed.queue;
+        let band = task.qos.code() as usize;
+        let mut queue = self.queues[band];
+        let _ = queue.push(slot);
         self.queues[band] = queue;
-        self.tasks[index] = task.with_state(ThreadState::Ready);
+        self.tasks[slot.0] = task.with_state(ThreadState::Ready);
         self.current[core] = NO_HOLDER;
         self.pick(core, Form::Plan, previous)
     }
@@ -134,21 +109,17 @@ impl QoSScheduler {
     // A pick in place of the core's Blocked holder. A Running holder, woken before the handoff came, goes on: no plan.
     // Refused for a core of 64 and above or without a holder, and where the holder is Ready.
     pub fn plan_blocked_current_handoff_on_cpu(mut self, core: usize) -> Reply
-        requires { Valid self }
         ensures { Meets (Call.Handoff core) self result }
     {
         if core >= MAX_CPUS {
             return self.refused(SchedError::NoSuchTask);
         }
         let previous = holder_of(self.current[core]);
-        let SlotOption::Some(slot) = previous else {
+        let Some(slot) = previous else {
             return self.refused(SchedError::NoSuchTask);
         };
-        let index = slot.0;
-        let task = self.tasks[index];
-        let state = task.state;
-        match state {
-            ThreadState::Running => self.told(Value::Plan(PlanOption::None)),
+        match self.tasks[slot.0].state {
+            ThreadState::Running => self.told(Value::Plan(None)),
             ThreadState::Blocked => {
                 self.current[core] = NO_HOLDER;
                 self.pick(core, Form::Plan, previous)
@@ -160,7 +131,6 @@ impl QoSScheduler {
 
     // A tick of core 0, answered as a plan.
     pub fn plan_context_switch(self, elapsed_us: u32) -> Reply
-        requires { Valid self }
         ensures { Meets (Call.Plan 0 elapsed_us) self result }
     {
         self.plan_context_switch_on_cpu(0, elapsed_us)
@@ -168,7 +138,6 @@ impl QoSScheduler {
 
     // A tick, answered as a plan; no plan for a core of 64 and above.
     pub fn plan_context_switch_on_cpu(self, core: usize, elapsed_us: u32) -> Reply
-        requires { Valid self }
         ensures { Meets (Call.Plan core elapsed_us) self result }
     {
         self.ticked(core, elapsed_us, Form::Plan)

@@ -1,158 +1,74 @@
-// What the program prints: an answer or a value on a line of its own, after what was done or asked.
-use records::SlotOption;
-use scheduler::{
-    Answer, ContextSwitchTarget, CoreOption, PickOption, PlanOption, Status, TaskOption, Value,
-};
+// What the program prints: answers and values in words.
+use records::Slot;
+use scheduler::{Answer, ContextSwitchTarget, Pick, Value};
+use std::fmt;
 
-// The file descriptor of standard output.
-const STDOUT_FILENO: i32 = 1;
+// Something in the words that the program prints of it.
+#[derive(Clone, Copy)]
+pub(crate) struct Words<T>(pub T);
 
-// A line with what was done, and the answer's three parts: status, pick and value.
-pub(crate) fn show_answer(what: &[u8], answer: Answer) {
-    let status = answer.status;
-    let pick = answer.pick;
-    let value = answer.value;
-    print(what);
-    print_status(status);
-    print_pick(pick);
-    print(b",");
-    print_value(value);
-    print(b"\n");
+// The answer's three parts: status, pick and value.
+impl fmt::Display for Words<Answer> {
+    fn fmt<W: fmt::Write>(&self, f: &mut fmt::Formatter<W>) -> fmt::Result {
+        let answer = self.0;
+        match answer.status {
+            Ok(()) => write!(f, "done,")?,
+            Err(error) => write!(f, "refused {},", error.code())?,
+        }
+        match answer.pick {
+            None => write!(f, " no pick,")?,
+            Some(Pick { slot, band }) => write!(f, " picks {} of band {},", slot.0, band.code())?,
+        }
+        write!(f, " {}", Words(answer.value))
+    }
 }
 
-// A line with what was asked, and the value found.
-pub(crate) fn show_value(what: &[u8], value: Value) {
-    print(what);
-    print(b":");
-    print_value(value);
-    print(b"\n");
-}
-
-fn print_status(status: Status) {
-    match status {
-        Status::Done => print(b": done,"),
-        Status::Refused(error) => {
-            print(b": refused ");
-            print_code(error.code());
-            print(b",");
+// Each kind of value under its own word; of a record its state's code, mask and consumed microseconds.
+impl fmt::Display for Words<Value> {
+    fn fmt<W: fmt::Write>(&self, f: &mut fmt::Formatter<W>) -> fmt::Result {
+        match self.0 {
+            Value::Nothing => write!(f, "no value"),
+            Value::Slot(slot) => write!(f, "slot {}", Words(slot)),
+            Value::Core(None) => write!(f, "core none"),
+            Value::Core(Some(core)) => write!(f, "core {core}"),
+            Value::Plan(None) => write!(f, "plan none"),
+            Value::Plan(Some(plan)) => write!(
+                f,
+                "plan from {} to {}",
+                Words(plan.prev_task_idx),
+                Words(plan.target),
+            ),
+            Value::Flag(false) => write!(f, "no"),
+            Value::Flag(true) => write!(f, "yes"),
+            Value::Task(None) => write!(f, "task none"),
+            Value::Task(Some(task)) => write!(
+                f,
+                "task in state {}, mask {:#x}, consumed {}",
+                task.state.code(),
+                task.cpu_affinity,
+                task.consumed_slice_us,
+            ),
+            Value::Micros(us) => write!(f, "{us} microseconds"),
         }
     }
 }
 
-fn print_pick(pick: PickOption) {
-    match pick {
-        PickOption::None => print(b" no pick"),
-        PickOption::Some(picked) => {
-            let slot = picked.slot;
-            let band = picked.band;
-            print(b" picks");
-            print_slot(SlotOption::Some(slot));
-            print(b" of band ");
-            print_code(band.code());
+// The slot's number.
+impl fmt::Display for Words<Option<Slot>> {
+    fn fmt<W: fmt::Write>(&self, f: &mut fmt::Formatter<W>) -> fmt::Result {
+        match self.0 {
+            None => write!(f, "none"),
+            Some(slot) => write!(f, "{}", slot.0),
         }
     }
 }
 
-// A space and the value, each kind under its own word.
-fn print_value(value: Value) {
-    match value {
-        Value::Nothing => print(b" no value"),
-        Value::Slot(slot) => {
-            print(b" slot");
-            print_slot(slot);
-        }
-        Value::Core(core) => print_core(core),
-        Value::Plan(plan) => print_plan(plan),
-        Value::Flag(flag) => {
-            if flag {
-                print(b" yes");
-            } else {
-                print(b" no");
-            }
-        }
-        Value::Task(task) => print_task(task),
-        Value::Micros(us) => {
-            print(b" ");
-            print_number(us);
-            print(b" microseconds");
+// The slot to switch to, with its cr3.
+impl fmt::Display for Words<ContextSwitchTarget> {
+    fn fmt<W: fmt::Write>(&self, f: &mut fmt::Formatter<W>) -> fmt::Result {
+        match self.0 {
+            ContextSwitchTarget::Task { task_idx, cr3 } => write!(f, "{} cr3 {cr3:#x}", task_idx.0),
+            ContextSwitchTarget::Idle => write!(f, "idle"),
         }
     }
-}
-
-// A space, and the slot's number or a word that there is none.
-fn print_slot(slot: SlotOption) {
-    match slot {
-        SlotOption::None => print(b" none"),
-        SlotOption::Some(s) => {
-            print(b" ");
-            print_number(s.0 as u64);
-        }
-    }
-}
-
-fn print_core(core: CoreOption) {
-    match core {
-        CoreOption::None => print(b" core none"),
-        CoreOption::Some(c) => {
-            print(b" core ");
-            print_number(c as u64);
-        }
-    }
-}
-
-fn print_plan(plan: PlanOption) {
-    match plan {
-        PlanOption::None => print(b" plan none"),
-        PlanOption::Some(switch) => {
-            let previous = switch.prev_task_idx;
-            let target = switch.target;
-            print(b" plan from");
-            print_slot(previous);
-            print_target(target);
-        }
-    }
-}
-
-fn print_target(target: ContextSwitchTarget) {
-    match target {
-        ContextSwitchTarget::Task { task_idx, cr3 } => {
-            print(b" to");
-            print_slot(SlotOption::Some(task_idx));
-            print(b" cr3 0x");
-            print_hex(cr3);
-        }
-        ContextSwitchTarget::Idle => print(b" to idle"),
-    }
-}
-
-// A record's state code, mask and consumed microseconds.
-fn print_task(task: TaskOption) {
-    match task {
-        TaskOption::None => print(b" task none"),
-        TaskOption::Some(record) => {
-            let state = record.state;
-            print(b" task in state ");
-            print_code(state.code());
-            print(b", mask 0x");
-            print_hex(record.cpu_affinity);
-            print(b", consumed ");
-            print_number(record.consumed_slice_us as u64);
-        }
-    }
-}
-
-fn print_code(code: u8) {
-    print_number(code as u64);
-}
-
-fn print_number(n: u64) {
-    io::print_decimal(STDOUT_FILENO, n);
-}
-
-fn print_hex(n: u64) {
-    io::print_hex(STDOUT_FILENO, n, 1);
-}
-
-fn print(text: &[u8]) {
-    io::write_all(STDOUT_FILENO, text);
 }

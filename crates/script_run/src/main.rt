@@ -8,38 +8,25 @@
 //   operation   the operations, and the order that a line gives
 //   words       a line, taken apart
 //   space       the bytes that a script works on
-//   called      what a host asks for, and what is done with the scheduler
+//   script      what a host asks for, and what is done with the scheduler
 //   said        what an operation says
 #![tactic(auto)]
 
-ghost use Rattle.scheduler.specs.Scheduler.{Valid};
-ghost use Rattle.text.specs.Text.{Kept};
-
-mod called;
 mod operation;
 mod said;
+mod script;
 mod space;
 mod words;
 
-use called::with_image;
-use operation::{LENGTH, NONE, order_in};
-use said::said_of;
-use scheduler::QoSScheduler;
-use space::{MARK, ROOM, SPACE, behind, copy_of, front};
-use text::Line;
-use words::{place_of, trimmed};
+use operation::Order;
+use script::Script;
+use std::io;
+use std::io::{BufReader, Write};
+use text::{behind, is_same, read_line};
+use words::{split_before, trimmed};
 
 // No line of a script is longer.
 const LINE_MAX: usize = 1024;
-
-// Where a script stands.
-#[derive(Clone, Copy)]
-struct Stand {
-    state: QoSScheduler,
-    // How many bytes of the space, from its front, are the image.
-    length: usize,
-    tally: Tally,
-}
 
 // What was counted.
 #[derive(Clone, Copy)]
@@ -49,128 +36,55 @@ struct Tally {
     differences: u64,
 }
 
-fn main() {
-    let mut stand = Stand {
-        state: QoSScheduler::new(),
-        length: SPACE - 1,
-        tally: Tally {
-            lines: 0,
-            operations: 0,
-            differences: 0,
-        },
+fn main(rt: HostRuntime) -> io::Result<()> {
+    let mut input = BufReader::new(rt.alloc(), rt.reader())?;
+    let mut script = Script::new();
+    let mut tally = Tally {
+        lines: 0,
+        operations: 0,
+        differences: 0,
     };
-    let mut space = [MARK; SPACE];
-    let mut kept = [MARK; SPACE];
-    let mut buffer = [MARK; ROOM];
     let mut line = [0u8; LINE_MAX];
-    // counted down, since a proved loop has to end and nothing says that the input does
-    let mut turns = u64::MAX;
-    while 0 < turns {
-        turns -= 1;
-        let n = text::read_line(&mut line);
+    // a bound, since a proved loop has to end and nothing says that the input does
+    for _ in 0..u64::MAX {
+        let n = read_line(&mut input, &mut line)?;
         if n == 0 {
             break;
         }
-        let next = done_line(stand, front(&line, n), &mut space, &mut kept, &mut buffer);
-        stand = next;
+        done_line(&rt, &mut script, &mut tally, &line[..n])?;
     }
-    report(stand.tally);
+    println!(rt;
+        "{} operations, {} differences",
+        tally.operations, tally.differences
+    )
 }
 
-// Does what a line orders, and compares what that says.
+// Does what a line orders, if it does, and compares what that says.
 fn done_line(
-    stand: Stand,
+    rt: &(impl Print + AllocGlobal),
+    script: &mut Script,
+    tally: &mut Tally,
     line: &[u8],
-    space: &mut [u8],
-    kept: &mut [u8],
-    buffer: &mut [u8],
-) -> Stand
-    requires { Valid stand.state }
-    ensures { Valid result.state }
-{
-    let line = trimmed(front(line, place_of(line, b'#')));
-    let order = order_in(front(line, place_of(line, b'=')));
-    let operation = order.operation;
-    let number = order.number;
-    let bytes = order.bytes;
-    let bytes = front(&bytes, order.count);
-    let length = length_after(operation, number, stand.length);
-    let state = stand.state;
-    let before = copy_of(space, buffer);
-    let stood = with_image(state, operation, number, bytes, space, length, kept, buffer);
-    let said = said_of(
-        operation,
-        number,
-        stood.returned,
-        length,
-        &before,
-        space,
-        kept,
-        buffer,
-    );
-    let tally = compared(stand.tally, operation, said, line);
-    let state = stood.state;
-    Stand {
-        state,
-        length,
-        tally,
+) -> io::Result<()> {
+    tally.lines = tally.lines.wrapping_add(1);
+    let (line, _remark) = split_before(line, b'#');
+    let (words, expected) = split_before(trimmed(line), b'=');
+    let Some(order) = Order::in_line(rt.alloc(), words)? else {
+        return Ok(());
+    };
+    tally.operations = tally.operations.wrapping_add(1);
+    let said = script.order(rt.alloc(), &order)?;
+    let expected = behind(expected, 2);
+    if !is_same(trimmed(said.as_bytes()), expected) {
+        tally.differences = tally.differences.wrapping_add(1);
+        show_difference(rt, tally.lines, said.as_str(), expected)?;
     }
+    Ok(())
 }
 
-// How many bytes the image has: as many as the last such operation says.
-fn length_after(operation: usize, number: usize, length: usize) -> usize {
-    if operation == LENGTH {
-        return number;
-    }
-    length
-}
-
-// An operation is counted, and what it said held against what its line expects; a line without an order is none.
-fn compared(tally: Tally, operation: usize, said: Line, line: &[u8]) -> Tally
-    requires { Kept said }
-{
-    let lines = std::num::wrapping_add_u64(tally.lines, 1);
-    if operation == NONE {
-        return Tally {
-            lines,
-            operations: tally.operations,
-            differences: tally.differences,
-        };
-    }
-    let operations = std::num::wrapping_add_u64(tally.operations, 1);
-    let expected = behind(behind(line, place_of(line, b'=')), 2);
-    let bytes = said.bytes;
-    if text::is_same(trimmed(front(&bytes, said.len)), expected) {
-        return Tally {
-            lines,
-            operations,
-            differences: tally.differences,
-        };
-    }
-    show_difference(lines, said, expected);
-    Tally {
-        lines,
-        operations,
-        differences: std::num::wrapping_add_u64(tally.differences, 1),
-    }
-}
-
-fn show_difference(line: u64, said: Line, expected: &[u8])
-    requires { Kept said }
-{
-    said.put(b", and line ")
-        .put_number(line)
-        .put(b" expects ")
-        .put(expected)
-        .put(b"\n")
-        .print();
-}
-
-fn report(tally: Tally) {
-    let done = Line::new()
-        .put_number(tally.operations)
-        .put(b" operations, ");
-    done.put_number(tally.differences)
-        .put(b" differences\n")
-        .print();
+fn show_difference(rt: &impl Print, line: u64, said: &str, expected: &[u8]) -> io::Result<()> {
+    print!(rt; "{said}, and line {line} expects ")?;
+    let mut out = io::writer(rt);
+    out.write_all(expected)?;
+    out.write_all(b"\n")
 }

@@ -1,133 +1,91 @@
 // What an operation says.
-ghost use Rattle.text.specs.Text.{Kept};
+use crate::operation::{Operation, Order};
+use crate::script::Refusal;
+use crate::space::Space;
+use frames::{ANSWER_MAX, HostError, accepts_image, check_image};
+use std::alloc::{AllocError, Global};
+use text::{Hex, behind, front, kept_or_changed, yes_or_no};
 
-use crate::called::{REFUSED, code};
-use crate::operation;
-use crate::space::{SPACE, behind, front};
-use frames::{ANSWER_MAX, accepts_image, check_image};
-use text::Line;
-
-// A part of the space.
-#[derive(Clone, Copy)]
-struct Part {
-    at: usize,
-    length: usize,
-}
-
-// What an order says that is done.
+// What an order says that is done: `returned` came of it, and the bytes were `before`.
 pub(crate) fn said_of(
-    operation: usize,
-    number: usize,
-    returned: u64,
-    length: usize,
-    before: &[u8],
-    space: &[u8],
-    kept: &[u8],
-    buffer: &[u8],
-) -> Line
-    ensures { Kept result }
-{
-    match operation {
-        operation::CALL..=operation::WRITE => told(returned, before, space, buffer),
-        operation::READ..=operation::ACCEPT => judged(front(space, length), returned),
-        operation::SAME => either(Line::new(), text::is_same(space, kept), b"yes", b"no"),
-        operation::BUFFER => shown(buffer, 0, ANSWER_MAX),
-        operation::RECORD..=operation::BYTE => shown_part(space, operation, number),
-        operation::UNKNOWN => Line::new().put(b"there is no such operation"),
-        _ => Line::new(),
+    alloc: Global,
+    order: &Order,
+    returned: Result<usize, Refusal>,
+    before: &Space,
+    space: &Space,
+) -> Result<String, AllocError> {
+    let bytes = &space.bytes;
+    let n = order.number;
+    match order.operation {
+        Operation::Call | Operation::Apply | Operation::Step | Operation::New | Operation::Write =>
+            told(alloc, returned, before, space),
+        Operation::Read | Operation::Accept => {
+            judged(alloc, front(bytes, space.length), returned)
+        }
+        Operation::Same => yes_or_no(space.bytes == space.kept).to_string(alloc),
+        Operation::Buffer => shown(alloc, &space.buffer, 0, ANSWER_MAX),
+        // Where a part begins, and how long it is: document 01's own numbers.
+        Operation::Record => shown(alloc, bytes, n % 64 * 47, 47),
+        Operation::Queue => shown(alloc, bytes, 3008 + n % 3 * 65, 65),
+        Operation::Holders => shown(alloc, bytes, 3203, 64),
+        Operation::Time => shown(alloc, bytes, 3267, 8),
+        Operation::Byte => shown(alloc, bytes, n, 1),
+        Operation::Unknown => "there is no such operation".to_string(alloc),
+        Operation::Fresh
+        | Operation::Length
+        | Operation::Fill
+        | Operation::Keep
+        | Operation::Back => Ok(String::new(alloc)),
     }
 }
 
 // What became of the bytes, and what was returned.
-fn told(returned: u64, before: &[u8], space: &[u8], buffer: &[u8]) -> Line
-    ensures { Kept result }
-{
-    let n = answer_length(returned);
-    let is_rest_kept = text::is_same(behind(behind(before, SPACE), n), behind(buffer, n));
-    let is_image_kept = text::is_same(front(before, SPACE), space);
-    let line = either(Line::new(), is_rest_kept, b"rest kept, ", b"rest changed, ");
-    let line = either(
-        line,
-        is_image_kept,
-        b"image kept, returns ",
-        b"image changed, returns ",
-    );
-    line.put_number(returned)
-        .put(b" ")
-        .put_hex(front(buffer, n))
-}
-
-// How long the answer is that a number returned speaks of.
-fn answer_length(returned: u64) -> usize {
-    if returned < REFUSED {
-        return returned as usize;
-    }
-    0
+fn told(
+    alloc: Global,
+    returned: Result<usize, Refusal>,
+    before: &Space,
+    space: &Space,
+) -> Result<String, AllocError> {
+    let n = returned.unwrap_or(0);
+    let rest = kept_or_changed(behind(&before.buffer, n) == behind(&space.buffer, n));
+    let image = kept_or_changed(before.bytes == space.bytes);
+    let number = match returned {
+        Ok(n) => n as u64,
+        Err(refusal) => refusal.number(),
+    };
+    let answer = Hex(front(&space.buffer, n));
+    format!(in alloc; "rest {rest}, image {image}, returns {number} {answer}")
 }
 
 // What is said of an image, the reader's number last.
-fn judged(image: &[u8], reader: u64) -> Line
-    ensures { Kept result }
-{
-    let line = either(
-        Line::new(),
-        accepts_image(image),
-        b"accepted, check ",
-        b"refused, check ",
-    );
-    line.put_number(code(check_image(image)))
-        .put(b", reader ")
-        .put_number(reader)
+fn judged(
+    alloc: Global,
+    image: &[u8],
+    reader: Result<usize, Refusal>,
+) -> Result<String, AllocError> {
+    let accepted = if accepts_image(image) {
+        "accepted"
+    } else {
+        "refused"
+    };
+    let check = code(check_image(image));
+    let reader = match reader {
+        Ok(_) => 0,
+        Err(Refusal::Host(error)) => error.code(),
+        Err(refusal) => refusal.number(),
+    };
+    format!(in alloc; "{accepted}, check {check}, reader {reader}")
 }
 
-// Puts the one or the other.
-fn either(line: Line, flag: bool, yes: &[u8], no: &[u8]) -> Line
-    requires { Kept line }
-    ensures { Kept result }
-{
-    if flag {
-        return line.put(yes);
-    }
-    line.put(no)
-}
-
-// A part's bytes.
-fn shown_part(space: &[u8], operation: usize, number: usize) -> Line
-    ensures { Kept result }
-{
-    let part = part_of(operation, number);
-    shown(space, part.at, part.length)
-}
-
-// Where a part begins, and how long it is: document 01's own numbers.
-fn part_of(operation: usize, number: usize) -> Part {
-    match operation {
-        operation::RECORD => Part {
-            at: number % 64 * 47,
-            length: 47,
-        },
-        operation::QUEUE => Part {
-            at: 3008 + number % 3 * 65,
-            length: 65,
-        },
-        operation::HOLDERS => Part {
-            at: 3203,
-            length: 64,
-        },
-        operation::TIME => Part {
-            at: 3267,
-            length: 8,
-        },
-        _ => Part {
-            at: number,
-            length: 1,
-        },
+// 0 for an image that is accepted, and a refusal's number.
+fn code(checked: Result<(), HostError>) -> u64 {
+    match checked {
+        Ok(()) => 0,
+        Err(error) => error.code(),
     }
 }
 
 // So many bytes from a place on.
-fn shown(bytes: &[u8], at: usize, n: usize) -> Line
-    ensures { Kept result }
-{
-    Line::new().put_hex(front(behind(bytes, at), n))
+fn shown(alloc: Global, bytes: &[u8], at: usize, n: usize) -> Result<String, AllocError> {
+    Hex(front(behind(bytes, at), n)).to_string(alloc)
 }

@@ -1,3 +1,3 @@
--- A line's text and what a piece makes of it; and what is told of two runs of bytes.
-pub mod Text
+-- Bytes, as they are printed; and what is told of two runs of bytes.
+pub mod Printed
 pub mod Same

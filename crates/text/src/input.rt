@@ -1,24 +1,21 @@
-// The next line of standard input.
-ghost use Rattle.std.specs.Prelude.{◌≤◌, length};
+// The next line of an input.
+ghost use Rattle.std.specs.Prelude.{◌≤◌, length, IfOk};
 
-// The file descriptor of standard input.
-const STDIN_FILENO: i32 = 0;
+use std::io;
+use std::io::Read;
 
 // Reads a line with its newline, as far as there is room, and says how long it is; 0 at the end of the input. What a read
 // brings no contract can say.
-pub fn read_line(line: &mut [u8]) -> usize
-    ensures { result ≤ length line.new }
+pub fn read_line(input: &mut impl Read, line: &mut [u8]) -> io::Result<usize>
+    ensures { IfOk result (λ n. n ≤ length line.new) }
 {
-    let mut n = 0;
-    while n < line.len() {
-        let behind = n + 1;
-        if io::read_full(STDIN_FILENO, &mut line[n..behind]) == 0 {
-            break;
+    for n in 0..line.len() {
+        if input.read(&mut line[n..n + 1])? == 0 {
+            return Ok(n);
         }
-        n = behind;
-        if line[n - 1] == b'\n' {
-            break;
+        if line[n] == b'\n' {
+            return Ok(n + 1);
         }
     }
-    n
+    Ok(line.len())
 }

@@ -1,14 +1,17 @@
 // What the programs that test print and compare.
 //
-//   line    a line of text, put together piece by piece, and its way to standard output
-//   same    whether two runs of bytes are the same
-//   input   the next line of standard input
+//   cut     parts of a run of bytes
+//   hex     bytes, as they are printed
+//   input   the next line of an input
+//   same    whether two runs of bytes are the same, and what is told of it
 #![tactic(auto)]
 
+mod cut;
+mod hex;
 mod input;
-mod line;
 mod same;
 
+pub use cut::{behind, front};
+pub use hex::Hex;
 pub use input::read_line;
-pub use line::Line;
-pub use same::is_same;
+pub use same::{is_same, kept_or_changed, yes_or_no};

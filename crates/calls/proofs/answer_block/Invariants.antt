@@ -5,7 +5,7 @@ use Rattle.calls.proofs.Feeding.{BlockGoing}
 use Rattle.calls.proofs.answer_block.Given as goal
 
 abbrev pub invariant-loop-stream : goal.invariant-loop-stream
-invariant-loop-stream l = BlockGoing l.last l.initial.stream l.block l.stream l.used
+invariant-loop-stream g l = BlockGoing l.last l.initial.stream l.block l.stream l.used
 
 abbrev pub decreases-loop-stream : goal.decreases-loop-stream
-decreases-loop-stream l = length l.block - l.used
+decreases-loop-stream g l = length l.block - l.used

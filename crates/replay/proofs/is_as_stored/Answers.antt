@@ -1,21 +1,18 @@
-use Rattle.std.proofs.Common.{inl, inr, rules}
-use Rattle.replay.proofs.Comparing.{unlike, goes_on, differs, ends, alike_by, apart_by}
+-- `is_as_stored` meets its contract: `all` over the pairs of bytes tells whether each fits. Assumes nothing.
+use Rattle.std.proofs.Common.{rules, tests, ◌≡◌, ◌&&◌, Bool, true, length, eqb, ap, sym, ◌∙◌, eq-eqb}
+use Rattle.std.specs.List.{list_all, zip}
+use Rattle.std.proofs.lemmas.Iterator.{YieldsList-from_slice, YieldsList-from_zip}
+use Rattle.std.proofs.lemmas.Iterator.Search.{all_from_yields_List}
+use Rattle.replay.specs.Comparing.{fits}
 use Rattle.replay.proofs.is_as_stored.Goals as goal
-use Rattle.replay.proofs.is_as_stored.Goals.{else-answer-i-via-then-answer-i+else-stored-i-ne-ANY, else-answer-i-via-else-answer-i}
 
 pub returns-then-answer-stored : goal.returns-then-answer-stored
-returns-then-answer-stored c = unlike _ _ c.if-answer-stored.true
-
-pub returns-then-stored-i-ne-ANY : goal.returns-then-stored-i-ne-ANY
-returns-then-stored-i-ne-ANY c =
-    differs _ _ c.loop-i.i (search rules) (search rules) (apart_by _ _ c.if-answer-i.true c.if-stored-i-ne-ANY.true) c.loop-i.invariant
-
-pub loop-i-preserved : goal.loop-i-preserved
-loop-i-preserved c =
-    goes_on _ _ c.loop-i.i (search rules) (search rules) (alike_by _ _ (elim c.else-answer-i.branch [
-      | else-answer-i-via-then-answer-i+else-stored-i-ne-ANY w ↦ inr w.if-stored-i-ne-ANY.false
-      | else-answer-i-via-else-answer-i w ↦ inl w.if-answer-i.false
-    ])) c.loop-i.invariant
-
-pub returns : goal.returns
-returns c = ends _ _ c.loop-i.i c.loop-i-test.false c.if-answer-stored.false c.loop-i.invariant
+returns-then-answer-stored c =
+    let answer = c.args.answer.now in
+    let stored = c.args.stored.now in
+    let same : eqb (length answer) (length stored) ≡ true = eq-eqb _ _ c.if-answer-stored.true in
+    let alike : c.all.result ≡ list_all (λ p. fits p.0 p.1) (zip answer stored) =
+    all_from_yields_List (λ p. fits p.0 p.1) c.all.new.self _ c.all.result c.all.ensures.ran
+    (YieldsList-from_zip (YieldsList-from_slice answer (cc)) (YieldsList-from_slice stored (cc)))
+    (λ x b q k. search (rules, tests)) in
+    alike ∙ sym (ap (λ (t : Bool). t && list_all (λ p. fits p.0 p.1) (zip answer stored)) same)

@@ -1,11 +1,6 @@
--- `main` ends: its turns are counted down. Assumes nothing.
+-- `main` lends each line an answer's buffer that has room for the answer that waits. Assumes nothing.
 use Rattle.std.proofs.Common.{◌≡◌, ◌≤◌, length}
-use Rattle.frames.specs.Stream.{ValidStream}
 use Rattle.replay.proofs.main.Given as goal
 
-abbrev pub invariant-loop-turns : goal.invariant-loop-turns
-invariant-loop-turns l =
-    ValidStream l.replay.stream × (length l.line ≡ 256) × (length l.answer ≡ 256) × (l.replay.waiting ≤ 256)
-
-abbrev pub decreases-loop-turns : goal.decreases-loop-turns
-decreases-loop-turns l = l.turns
+abbrev pub invariant-loop : goal.invariant-loop
+invariant-loop l = (length l.answer ≡ 256) × (l.replay.waiting ≤ 256)

@@ -1,16 +1,11 @@
-use mathlib.Core.Path.{ap, ◌∙◌}
-use borrow.Author.Rules.{rules}
-use lib.Seq.{take_all}
-use Rattle.frames.specs.Private.{all_zero}
-use Rattle.frames.proofs.Passing.{zeros_begin, zeros_on}
+-- `all_zero` meets its contract: a sum is 0 where all its parts are. Assumes nothing.
+use Rattle.std.proofs.Common.{◌≡◌, ℕ, ap, ◌∙◌, rules}
+use lib.Dec.{eqb}
+use Rattle.std.specs.Prelude.{sum}
+use Rattle.frames.proofs.Passing.{zero_sum}
 use Rattle.frames.proofs.accept.all_zero.Goals as goal
 
-pub loop-k-init : goal.loop-k-init
-loop-k-init c = (search rules, search rules, zeros_begin c.args.bytes.now)
-
-pub loop-k-preserved : goal.loop-k-preserved
-loop-k-preserved c =
-    (search rules, search rules, zeros_on _ c.loop-k.k c.loop-k.sum (search rules) c.loop-k.invariant.2 c.wide-sum.ensures.0)
-
 pub returns : goal.returns
-returns c = c.loop-k.invariant.2 ∙ ap all_zero (take_all _ _ c.loop-k-test.false)
+returns c =
+    let is : c.sum-sum.result ≡ sum c.args.bytes.now = search rules in
+    ap (λ (n : ℕ). eqb n 0) is ∙ zero_sum c.args.bytes.now

@@ -1,5 +1,9 @@
 -- `is_waiting` meets its contract: a law for each way out. Assumes nothing.
-use Rattle.frames.proofs.Accepting.{waiting-past, waiting_not, waiting_of}
+use Rattle.std.proofs.Common.{ap, ◌∙◌, rules}
+use Rattle.records.specs.declared.task.TaskControlBlock.{TaskControlBlock}
+use Rattle.rules.specs.State.{task}
+use Rattle.frames.specs.Image.{state_at}
+use Rattle.frames.proofs.Accepting.{record_read, ready_read, waiting-past, waiting_not, waiting_of}
 use Rattle.frames.proofs.accept.is_waiting.Goals as goal
 
 pub returns-then-slot-ge-MAX_TASKS : goal.returns-then-slot-ge-MAX_TASKS
@@ -7,13 +11,16 @@ returns-then-slot-ge-MAX_TASKS c =
     let a = c.args in
     waiting-past a.image.now a.band a.slot c.if-slot-ge-MAX_TASKS.true
 
-pub returns-then-not-is_ready : goal.returns-then-not-is_ready
-returns-then-not-is_ready c =
+pub returns-then-is_ready : goal.returns-then-is_ready
+returns-then-is_ready c =
     let a = c.args in
-    waiting_not a.image.now a.slot c.if-slot-ge-MAX_TASKS.false c.record_at-record.ensures c.is_ready.ensures a.band c.if-not-is_ready.true-raw
+    let low = c.if-slot-ge-MAX_TASKS.false in
+    let own = c.band_in.ensures ∙ ap (λ (t : TaskControlBlock). t.qos) (record_read a.image.now a.slot low c.record_at-record.ensures) in
+    waiting_of (task (state_at a.image.now) a.slot) (ready_read a.image.now a.slot low c.record_at-record.ensures c.is_ready.ensures)
+    a.band c.if-is_ready.true own (search rules)
 
-pub returns : goal.returns
-returns c =
+pub returns-else-is_ready : goal.returns-else-is_ready
+returns-else-is_ready c =
     let a = c.args in
-    waiting_of a.image.now a.slot c.if-slot-ge-MAX_TASKS.false c.record_at-record.ensures c.is_ready.ensures c.if-not-is_ready.false-raw
-    c.band_in.ensures c.code.ensures c.code-2.ensures
+    waiting_not (task (state_at a.image.now) a.slot)
+    (ready_read a.image.now a.slot c.if-slot-ge-MAX_TASKS.false c.record_at-record.ensures c.is_ready.ensures) a.band c.if-is_ready.false

@@ -1,9 +1,8 @@
 -- `slot_fits` meets its contract: the record that the bytes stand for is the slot's. Assumes nothing.
 use Rattle.frames.proofs.Accepting.{slot_fits_lem}
-use borrow.Author.Rules.{rules}
 use Rattle.frames.proofs.accept.slot_fits.Goals as goal
 
 pub returns : goal.returns
 returns c =
     let a = c.args in
-    slot_fits_lem a.image.now a.slot (search rules) c.record_at.ensures c.record_fits.ensures
+    slot_fits_lem a.image.now a.slot c.requires c.record_at.ensures c.record_fits.ensures

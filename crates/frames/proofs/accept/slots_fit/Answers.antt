@@ -1,58 +1,41 @@
-use Rattle.records.specs.declared.band.QoSClass.TheVariants.{UserInteractive, RealTimeIO, Background}
-use Rattle.frames.proofs.Passing.{passing_begin, passing_on, first_failed, second_failed, both_ended}
+-- `slots_fit` meets its contract: the counts of each queue, and a law for each way out. Assumes nothing.
+use Rattle.std.proofs.Common.{sym}
+use mathlib.Core.Bool.{and-false}
+use Rattle.rules.specs.Accepted.{stands_once}
+use Rattle.frames.specs.Image.{state_at}
+use Rattle.frames.specs.AcceptedImage.{slot_fits}
+use Rattle.frames.proofs.Passing.{passing_begin, passing_on, passing_failed}
 use Rattle.frames.proofs.Counting.{first_most, second_most, third_most, counts_are, stands_once_lem}
 use Rattle.frames.proofs.accept.slots_fit.Goals as goal
+use Rattle.frames.proofs.accept.slots_fit.Goals.{then-not-slot_fits-via-then-not-slot_fits, then-not-slot_fits-via-else-not-slot_fits+then-not-stands_once}
 
-pub counted-first-requires : goal.counted-first-requires
-counted-first-requires c =
-    record {
-      image_len = c.requires.image_len;
-      image_bound = c.requires.lengths_fit UserInteractive;
-      at_most = first_most c.args.image.now c.requires.lengths_fit;
-    }
+pub counted-first-requires-clause-at_most : goal.counted-first-requires-clause-at_most
+counted-first-requires-clause-at_most c = first_most c.args.image.now c.requires
 
-pub counted-second-requires : goal.counted-second-requires
-counted-second-requires c =
-    record {
-      image_len = c.requires.image_len;
-      image_bound = c.requires.lengths_fit RealTimeIO;
-      at_most = second_most c.args.image.now c.requires.lengths_fit c.counted-first.ensures;
-    }
+pub counted-second-requires-clause-at_most : goal.counted-second-requires-clause-at_most
+counted-second-requires-clause-at_most c = second_most c.args.image.now c.requires c.counted-first.ensures
 
-pub counted-counts-requires : goal.counted-counts-requires
-counted-counts-requires c =
-    record {
-      image_len = c.requires.image_len;
-      image_bound = c.requires.lengths_fit Background;
-      at_most = third_most c.args.image.now c.requires.lengths_fit c.counted-first.ensures c.counted-second.ensures;
-    }
+pub counted-counts-requires-clause-at_most : goal.counted-counts-requires-clause-at_most
+counted-counts-requires-clause-at_most c = third_most c.args.image.now c.requires c.counted-first.ensures c.counted-second.ensures
 
 pub loop-slot-init : goal.loop-slot-init
-loop-slot-init c = (
-  counts_are c.args.image.now c.requires.lengths_fit c.counted-first.ensures c.counted-second.ensures c.counted-counts.ensures,
-  (passing_begin _, passing_begin _),
-)
+loop-slot-init c = (passing_begin _, passing_begin _)
 
 pub returns-then-not-slot_fits : goal.returns-then-not-slot_fits
 returns-then-not-slot_fits c =
-    first_failed c.loop-slot.invariant.1 c.loop-slot-test.true c.slot_fits.ensures c.if-not-slot_fits.true-raw
-
-pub returns-then-not-stands_once : goal.returns-then-not-stands_once
-returns-then-not-stands_once c =
-    let inv = c.loop-slot.invariant in
+    let image = c.args.image.now in
     let low = c.loop-slot-test.true in
-    second_failed inv.1 low (stands_once_lem inv.0 low c.stands_once.ensures) c.if-not-stands_once.true-raw
+    elim c.then-not-slot_fits.branch [
+      | then-not-slot_fits-via-then-not-slot_fits w ↦ sym (rw (passing_failed (slot_fits image) low c.slot_fits.ensures w.if-not-slot_fits.true))
+      | then-not-slot_fits-via-else-not-slot_fits+then-not-stands_once w ↦
+          let counts = counts_are image c.requires c.counted-first.ensures c.counted-second.ensures c.counted-counts.ensures in
+          sym (rw (passing_failed (stands_once (state_at image)) low (stands_once_lem counts low w.stands_once.ensures) w.if-not-stands_once.true, and-false))
+    ]
 
 pub loop-slot-preserved : goal.loop-slot-preserved
 loop-slot-preserved c =
-    let inv = c.loop-slot.invariant in
-    let low = c.loop-slot-test.true in (
-      inv.0,
-      (
-        passing_on inv.1.0 low c.slot_fits.ensures c.if-not-slot_fits.false-raw,
-        passing_on inv.1.1 low (stands_once_lem inv.0 low c.stands_once.ensures) c.if-not-stands_once.false-raw,
-      ),
+    let low = c.loop-slot-test.true in
+    let counts = counts_are c.args.image.now c.requires c.counted-first.ensures c.counted-second.ensures c.counted-counts.ensures in (
+      passing_on c.loop-slot.invariant.0 low c.slot_fits.ensures c.if-not-slot_fits.false,
+      passing_on c.loop-slot.invariant.1 low (stands_once_lem counts low c.stands_once.ensures) c.if-not-stands_once.false,
     )
-
-pub returns : goal.returns
-returns c = both_ended c.loop-slot.invariant.1 c.loop-slot-test.false

@@ -1,13 +1,10 @@
-use mathlib.Core.Path.{refl, sym, ◌∙◌}
-use borrow.Author.Rules.{rules}
-use Rattle.frames.proofs.Numbers.{putting_on, putting_ended}
+-- `put_number` meets its contract: the last bytes of the number are stored. Assumes nothing.
+use mathlib.Core.Path.{ap, ◌∙◌}
+use lib.Seq.{sets}
+use Rattle.frames.proofs.Numbers.{last_bytes_stored}
 use Rattle.frames.proofs.bytes.put_number.Goals as goal
 
-pub loop-k-init : goal.loop-k-init
-loop-k-init c = (search rules, refl, refl)
-
-pub loop-k-preserved : goal.loop-k-preserved
-loop-k-preserved c = (search rules, search rules, putting_on _ _ _ _ _ (search rules) refl ∙ c.loop-k.invariant.2)
-
 pub returns : goal.returns
-returns c = sym (putting_ended _ _ _ _ c.loop-k-test.false) ∙ c.loop-k.invariant.2
+returns c =
+    let a = c.args in
+    c.put_bytes.ensures ∙ ap (sets a.bytes.now a.at) (last_bytes_stored a.width a.number c.requires.width_bound c.to_be_bytes.ensures)

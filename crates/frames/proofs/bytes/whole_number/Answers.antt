@@ -1,19 +1,10 @@
+-- One more byte, read behind those so far, keeps the invariant. Assumes nothing.
 use native.Mathlib.Omega.{arith}
-use borrow.Author.Rules.{rules}
-use Rattle.frames.proofs.Numbers.{number_begin, number_on, number_ended, number_room}
+use Rattle.frames.proofs.Numbers.{number_begin, number_on}
 use Rattle.frames.proofs.bytes.whole_number.Goals as goal
 
-pub loop-k-init : goal.loop-k-init
-loop-k-init c = (search rules, number_begin _ _)
+pub loop-byte-init : goal.loop-byte-init
+loop-byte-init c = number_begin c.args.bytes.now
 
-pub overflow_mul-read : goal.overflow_mul-read
-overflow_mul-read c = omega (arith, number_room c.loop-k.invariant.1 (omega arith))
-
-pub overflow_add-read : goal.overflow_add-read
-overflow_add-read c = omega (arith, number_room c.loop-k.invariant.1 (omega arith))
-
-pub loop-k-preserved : goal.loop-k-preserved
-loop-k-preserved c = (search rules, number_on c.loop-k.invariant.1 (search rules) c.wide.ensures.0 c.wide.ensures.1)
-
-pub returns : goal.returns
-returns c = number_ended c.loop-k.invariant.1 (search rules) (search rules)
+pub loop-byte-preserved : goal.loop-byte-preserved
+loop-byte-preserved c = number_on c.loop-byte.invariant c.loop-byte-test.true c.from.ensures (omega (arith, c.type_inv.bytes c.loop-byte.byte-index))

@@ -1,23 +1,24 @@
 -- `read_frame` meets its contract: nothing for no bytes, an unknown call and a wrong length; else what the table has. Assumes nothing.
-use mathlib.Core.Path.{sym, ◌∙◌}
-use native.Mathlib.Omega.{arith}
-use Rattle.frames.proofs.Decodings.{frame_when, frame_unless, frame-empty, frame_unknown}
+use mathlib.Core.Path.{◌∙◌}
+use Rattle.frames.proofs.Decodings.{frame_empty, frame_unknown, frame_unless, frame_when}
 use Rattle.frames.proofs.decode.read_frame.Goals as goal
 
-pub returns-then-frame-eq0 : goal.returns-then-frame-eq0
-returns-then-frame-eq0 c = frame-empty c.args.frame.now c.if-frame-eq0.true
+pub returns-in_err-call : goal.returns-in_err-call
+returns-in_err-call c = c.from_residual.ensures ∙ frame_empty c.args.frame.now c.in_err-call.ensures.item.3
 
-pub overflow_cast-place : goal.overflow_cast-place
-overflow_cast-place c = omega (arith, c.shared_slice_known-2-1.given 0)
+pub returns-in_err-length : goal.returns-in_err-length
+returns-in_err-length c =
+    let first = c.in_ok-call.ensures.item.3 in
+    c.from_residual-in_err-length.ensures ∙ frame_unknown c.args.frame.now first.0 (c.from.ensures ∙ first.1 0) c.in_err-length.ensures.lookup.3
 
-pub returns-then-place-ge-CALLS : goal.returns-then-place-ge-CALLS
-returns-then-place-ge-CALLS c =
-    frame_unknown c.args.frame.now (omega (arith, c.if-frame-eq0.false)) c.if-place-ge-CALLS.true
-
-pub returns-then-frame-place : goal.returns-then-frame-place
-returns-then-frame-place c =
-    frame_unless c.args.frame.now (omega (arith, c.if-frame-eq0.false)) c.if-place-ge-CALLS.false c.if-frame-place.true
+pub returns-then-frame-length : goal.returns-then-frame-length
+returns-then-frame-length c =
+    let first = c.in_ok-call.ensures.item.3 in
+    let long = c.in_ok-length.ensures.lookup.3 in
+    frame_unless c.args.frame.now first.0 (c.from.ensures ∙ first.1 0) long.0 (long.1 0) c.if-frame-length.true
 
 pub returns : goal.returns
 returns c =
-    c.call_in.ensures ∙ sym (frame_when c.args.frame.now (omega (arith, c.if-frame-eq0.false)) c.if-place-ge-CALLS.false c.if-frame-place.false)
+    let first = c.in_ok-call.ensures.item.3 in
+    let long = c.in_ok-length.ensures.lookup.3 in
+    cc (frame_when c.args.frame.now first.0 (c.from.ensures ∙ first.1 0) long.0 (long.1 0) c.if-frame-length.false)

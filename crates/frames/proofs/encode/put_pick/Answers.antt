@@ -1,5 +1,5 @@
 -- `put_pick` meets its contract: two numbers, for a pick and for none. Assumes nothing.
-use mathlib.Core.Path.{refl}
+use mathlib.Core.Path.{refl, ◌∙◌}
 use Rattle.frames.proofs.Runs.{run_on, run_end}
 use Rattle.frames.proofs.Encodings.{pick_as}
 use Rattle.frames.proofs.encode.put_pick.Goals as goal
@@ -14,4 +14,4 @@ pub returns-in-Some : goal.returns-in-Some
 returns-in-Some c =
     pick_as _ c.in-Some.is
     (run_on _ _ 1 _ _ c.put_number-in-Some.ensures refl refl
-    (run_end _ _ 1 c.put_number-in-Some-2.ensures c.code.ensures.is))
+    (run_end _ _ 1 c.put_number-in-Some-2.ensures (c.from.ensures ∙ c.code.ensures.is)))

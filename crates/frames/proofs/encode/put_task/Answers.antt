@@ -1,7 +1,7 @@
 -- `put_task` meets its contract: each arm puts its kind. Assumes nothing.
 use mathlib.Core.Path.{refl, ap}
+use Rattle.std.specs.Prelude.{None}
 use Rattle.rules.specs.declared.answer.Value.TheVariants as value
-use Rattle.rules.specs.declared.answer.TaskOption.TheVariants as task
 use Rattle.frames.specs.Private.{value_bytes}
 use Rattle.frames.proofs.Encodings.{value_as, byte_put, task-put}
 use Rattle.frames.proofs.encode.put_task.Goals as goal
@@ -9,7 +9,7 @@ use Rattle.frames.proofs.encode.put_task.Goals as goal
 pub returns-in-None : goal.returns-in-None
 unfolding value_bytes
 returns-in-None c =
-    value_as (ap value.Task c.in-None.is) (byte_put (value.Task task.None) refl refl c.put_byte.ensures)
+    value_as (ap value.Task c.in-None.is) (byte_put (value.Task None) refl refl c.put_byte.ensures)
 
 pub returns-in-Some : goal.returns-in-Some
 returns-in-Some c =

@@ -2,10 +2,11 @@
 use mathlib.Core.Path.{refl}
 use native.Mathlib.Omega.{arith}
 use Rattle.frames.proofs.Runs.{run_on, run_end}
+use Rattle.frames.proofs.Encodings.{flag_is}
 use Rattle.frames.proofs.encode.put_times.Goals as goal
 
 pub returns : goal.returns
 returns c =
-    run_on _ _ 4 _ _ c.put_number.ensures refl refl
-    (run_on _ _ 4 _ _ c.put_number-2.ensures refl (omega arith)
-    (run_end _ _ 1 c.put_number-3.ensures c.flag_number.ensures))
+    run_on _ _ 4 _ _ c.put_number.ensures c.from.ensures refl
+    (run_on _ _ 4 _ _ c.put_number-2.ensures c.from-2.ensures (omega arith)
+    (run_end _ _ 1 c.put_number-3.ensures (flag_is c.args.task.in_use c.from-3.ensures)))

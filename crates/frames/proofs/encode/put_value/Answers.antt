@@ -3,7 +3,7 @@ use mathlib.Core.Path.{refl}
 use Rattle.rules.specs.declared.answer.Value.TheVariants as value
 use Rattle.frames.specs.Private.{value_bytes}
 use Rattle.frames.proofs.Runs.{run_end}
-use Rattle.frames.proofs.Encodings.{value_as, value_put, byte_put}
+use Rattle.frames.proofs.Encodings.{flag_is, value_as, value_put, byte_put}
 use Rattle.frames.proofs.encode.put_value.Goals as goal
 
 pub returns-in-Nothing : goal.returns-in-Nothing
@@ -17,20 +17,12 @@ returns-in-Slot c =
 pub returns-in-Core : goal.returns-in-Core
 unfolding value_bytes
 returns-in-Core c =
-    value_as c.in-Core.is (byte_put (value.Core c.in-Core.core) c.core_number.ensures refl c.put_byte-in-Core.ensures)
-
-pub returns-in-Plan : goal.returns-in-Plan
-returns-in-Plan c =
-    value_as c.in-Plan.is c.put_plan.ensures
+    value_as c.in-Core.is (byte_put (value.Core c.in-Core.core) c.number_or_none.ensures refl c.put_byte-in-Core.ensures)
 
 pub returns-in-Flag : goal.returns-in-Flag
 unfolding value_bytes
 returns-in-Flag c =
-    value_as c.in-Flag.is (byte_put (value.Flag c.in-Flag.flag) c.flag_number.ensures refl c.put_byte-in-Flag.ensures)
-
-pub returns-in-Task : goal.returns-in-Task
-returns-in-Task c =
-    value_as c.in-Task.is c.put_task.ensures
+    value_as c.in-Flag.is (byte_put (value.Flag c.in-Flag.flag) (flag_is c.in-Flag.flag c.from.ensures) refl c.put_byte-in-Flag.ensures)
 
 pub returns-in-Micros : goal.returns-in-Micros
 returns-in-Micros c =

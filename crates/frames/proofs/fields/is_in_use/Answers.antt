@@ -1,6 +1,9 @@
--- `is_in_use` meets its contract. Assumes nothing.
-use Rattle.frames.proofs.RecordBytes.{in_use_is}
+-- `is_in_use` meets its contract: the byte that is read is the record's. Assumes nothing.
+use Rattle.std.proofs.Common.{ℕ, ap}
+use lib.Dec.{eqb}
+use Rattle.frames.specs.Image.{record_in}
 use Rattle.frames.proofs.fields.is_in_use.Goals as goal
 
 pub returns : goal.returns
-returns c = in_use_is c.number.ensures
+unfolding record_in
+returns c = ap (λ (n : ℕ). eqb n 1) c.number.ensures.is

@@ -1,10 +1,8 @@
--- `may_hold` meets its contract: a law for a record that is in use and one for a record that is not. Assumes nothing.
-use Rattle.frames.proofs.RecordBytes.{hold_unused, hold_used}
+-- `may_hold` meets its contract: the budget that is read is the record's. Assumes nothing.
+use Rattle.std.proofs.Common.{sym, ◌∙◌}
+use Rattle.frames.specs.Image.{record_in}
 use Rattle.frames.proofs.fields.may_hold.Goals as goal
 
 pub returns-then-is_in_use : goal.returns-then-is_in_use
-returns-then-is_in_use c =
-    hold_used c.args.bytes.now c.is_in_use.ensures c.if-is_in_use.true c.number.ensures c.slice_in.ensures
-
-pub returns-else-is_in_use : goal.returns-else-is_in_use
-returns-else-is_in_use c = hold_unused c.args.bytes.now c.is_in_use.ensures c.if-is_in_use.false
+unfolding record_in
+returns-then-is_in_use c = rw (sym c.is_in_use.ensures ∙ c.if-is_in_use.true, c.number.ensures.is, c.slice_in.ensures)

@@ -1,28 +1,42 @@
--- `record_fits` meets its contract: a law for each way out. Assumes nothing.
-use Rattle.frames.proofs.RecordBytes.{record_codes, record_use, record_mask, record_budget, record_rest}
+-- `record_fits` meets its contract: the tests one after the other, each made where those before it passed. Assumes nothing.
+use Rattle.std.proofs.Common.{◌≡◌, refl, ◌∙◌}
+use Rattle.frames.proofs.Passing.{passed_on, failed_on}
+use Rattle.frames.proofs.RecordBytes.{codes_use, codes_mask, codes_budget, use_tested, mask_tested, budget_tested, consumed_tested, record_tested}
 use Rattle.frames.proofs.fields.record_fits.Goals as goal
+use Rattle.frames.proofs.fields.record_fits.Goals.{then-codes_fit, else-codes_fit}
+use Rattle.frames.proofs.fields.record_fits.Goals.{then-is_in_use-is_terminated, else-is_in_use-is_terminated}
+use Rattle.frames.proofs.fields.record_fits.Goals.{then-number-ne0, else-number-ne0}
 
-pub returns-then-not-codes_fit : goal.returns-then-not-codes_fit
-returns-then-not-codes_fit c = record_codes c.args.bytes.now c.codes_fit.ensures c.if-not-codes_fit.true-raw
+pub returns-then-budget_fits : goal.returns-then-budget_fits
+returns-then-budget_fits c =
+    let b = c.args.bytes.now in
+    let first : c.if-codes_fit.value ≡ codes_use b = elim c.if-codes_fit.branch [
+      | then-codes_fit w ↦ passed_on c.codes_fit.ensures w.if-codes_fit.true (use_tested b w.value-is w.is_in_use.ensures w.is_terminated.ensures)
+      | else-codes_fit w ↦ failed_on c.codes_fit.ensures _ w.if-codes_fit.false w.value-is
+    ] in
+    let second : c.if-is_in_use-is_terminated.value ≡ codes_mask b = elim c.if-is_in_use-is_terminated.branch [
+      | then-is_in_use-is_terminated w ↦ passed_on first w.if-is_in_use-is_terminated.true (mask_tested b w.value-is w.number.ensures)
+      | else-is_in_use-is_terminated w ↦ failed_on first _ w.if-is_in_use-is_terminated.false w.value-is
+    ] in
+    let third : c.if-number-ne0.value ≡ codes_budget b = elim c.if-number-ne0.branch [
+      | then-number-ne0 w ↦ passed_on second w.if-number-ne0.true (budget_tested b (w.value-is ∙ w.budget_fits.ensures) w.number-then-number-ne0.ensures c.slice_in-slice.ensures)
+      | else-number-ne0 w ↦ failed_on second _ w.if-number-ne0.false w.value-is
+    ] in
+    record_tested b (passed_on third c.if-budget_fits.true (consumed_tested b c.number-then-budget_fits.ensures c.slice_in-slice.ensures))
 
-pub returns-then-is_in_use-is_terminated : goal.returns-then-is_in_use-is_terminated
-returns-then-is_in_use-is_terminated c =
-    let a = c.args in
-    record_use a.bytes.now c.is_in_use.ensures c.is_terminated.ensures c.if-is_in_use-is_terminated.true
-
-pub returns-then-number-eq0 : goal.returns-then-number-eq0
-returns-then-number-eq0 c =
-    let a = c.args in
-    record_mask a.bytes.now c.number.ensures c.if-number-eq0.true
-
-pub returns-then-not-budget_fits : goal.returns-then-not-budget_fits
-returns-then-not-budget_fits c =
-    let a = c.args in
-    record_budget a.bytes.now c.number-2.ensures c.slice_in-slice.ensures c.budget_fits.ensures c.if-not-budget_fits.true-raw
-
-pub returns : goal.returns
-returns c =
-    let a = c.args in
-    record_rest a.bytes.now c.number-2.ensures c.slice_in-slice.ensures c.budget_fits.ensures
-    c.codes_fit.ensures c.if-not-codes_fit.false-raw c.is_in_use.ensures c.is_terminated.ensures c.if-is_in_use-is_terminated.false
-    c.number.ensures c.if-number-eq0.false c.if-not-budget_fits.false-raw c.number-3.ensures
+pub returns-else-budget_fits : goal.returns-else-budget_fits
+returns-else-budget_fits c =
+    let b = c.args.bytes.now in
+    let first : c.if-codes_fit.value ≡ codes_use b = elim c.if-codes_fit.branch [
+      | then-codes_fit w ↦ passed_on c.codes_fit.ensures w.if-codes_fit.true (use_tested b w.value-is w.is_in_use.ensures w.is_terminated.ensures)
+      | else-codes_fit w ↦ failed_on c.codes_fit.ensures _ w.if-codes_fit.false w.value-is
+    ] in
+    let second : c.if-is_in_use-is_terminated.value ≡ codes_mask b = elim c.if-is_in_use-is_terminated.branch [
+      | then-is_in_use-is_terminated w ↦ passed_on first w.if-is_in_use-is_terminated.true (mask_tested b w.value-is w.number.ensures)
+      | else-is_in_use-is_terminated w ↦ failed_on first _ w.if-is_in_use-is_terminated.false w.value-is
+    ] in
+    let third : c.if-number-ne0.value ≡ codes_budget b = elim c.if-number-ne0.branch [
+      | then-number-ne0 w ↦ passed_on second w.if-number-ne0.true (budget_tested b (w.value-is ∙ w.budget_fits.ensures) w.number-then-number-ne0.ensures c.slice_in-slice.ensures)
+      | else-number-ne0 w ↦ failed_on second _ w.if-number-ne0.false w.value-is
+    ] in
+    record_tested b (failed_on third _ c.if-budget_fits.false refl)

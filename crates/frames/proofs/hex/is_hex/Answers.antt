@@ -1,25 +1,19 @@
-use mathlib.Core.Path.{sym, ◌∙◌}
-use Rattle.frames.proofs.Digits.{testing_begin, testing_on, testing_first, testing_second, testing_ended}
+-- `is_hex` meets its contract: a line of even length is tested digit by digit, and no other is digits. Assumes nothing.
+use mathlib.Core.Path.{◌≡◌, ◌∙◌}
+use mathlib.Core.Bool.{true}
+use Prim.Native.Nat.{ℕ, ◌<◌}
+use borrow.Author.Rules.{rules}
+use borrow.Author.Tests.{ne_eqb}
+use lib.ListN.{length, get_or}
+use Rattle.std.specs.Bool.{Decides}
+use Rattle.frames.specs.Hex.{is_digit}
+use Rattle.frames.proofs.Digits.{is_hex_when, is_hex-odd}
 use Rattle.frames.proofs.hex.is_hex.Goals as goal
-use Rattle.frames.proofs.hex.is_hex.Goals.{then-not-is_digit-via-then-not-is_digit, then-not-is_digit-via-else-not-is_digit+then-not-is_digit-2}
 
-pub loop-k-init : goal.loop-k-init
-loop-k-init c = testing_begin _
+pub returns-then-line-eq0 : goal.returns-then-line-eq0
+returns-then-line-eq0 c =
+    let each-is : Decides c.all.result ((k : ℕ) → k < length c.args.line.now → is_digit (get_or c.args.line.now k 0) ≡ true) = search rules in
+    is_hex_when c.args.line.now c.all.result c.if-line-eq0.true each-is
 
-pub returns-then-not-is_digit : goal.returns-then-not-is_digit
-returns-then-not-is_digit c =
-    elim c.then-not-is_digit.branch [
-      | then-not-is_digit-via-then-not-is_digit w ↦
-          testing_first c.loop-k.invariant c.loop-k-test.true (sym c.is_digit.ensures ∙ w.if-not-is_digit.true)
-      | then-not-is_digit-via-else-not-is_digit+then-not-is_digit-2 w ↦
-          testing_second c.loop-k.invariant c.loop-k-test.true (sym w.is_digit-else-not-is_digit.ensures ∙ w.if-not-is_digit-2.true)
-    ]
-
-pub loop-k-preserved : goal.loop-k-preserved
-loop-k-preserved c =
-    testing_on c.loop-k.invariant c.loop-k-test.true
-    (sym c.is_digit.ensures ∙ c.if-not-is_digit.false)
-    (sym c.is_digit-else-not-is_digit.ensures ∙ c.if-not-is_digit-2.false)
-
-pub returns : goal.returns
-returns c = testing_ended c.loop-k.invariant c.loop-k-test.false
+pub returns-else-line-eq0 : goal.returns-else-line-eq0
+returns-else-line-eq0 c = ne_eqb _ 0 c.if-line-eq0.false ∙ is_hex-odd c.args.line.now c.if-line-eq0.false

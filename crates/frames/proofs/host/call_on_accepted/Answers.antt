@@ -1,19 +1,20 @@
 -- `call_on_accepted` meets its contract: a refused call leaves the image, and after any other the records that it left are not written.
 -- Assumes nothing.
-use Rattle.frames.proofs.Hosting.{answers_refused, answers_done, untouched}
+use mathlib.Core.Path.{◌≡◌, sym, ap, ◌∙◌}
+use Rattle.std.proofs.lemmas.Option.{MatchOption-at_some}
+use Rattle.rules.specs.Touched.{named_slot}
+use Rattle.frames.specs.Image.{state_at}
+use Rattle.frames.proofs.Hosting.{answers_refused, untouched}
 use Rattle.frames.proofs.host.call_on_accepted.Goals as goal
 
-pub update_image-requires : goal.update_image-requires
-update_image-requires c = record {
-  valid = c.apply-reply.ensures.valid;
-  accepted_image = c.requires;
-  same_but = untouched _ c.args.image.now c.state_at-state.ensures c.apply-reply.ensures c.named_slot-named.ensures c.answered_slot.ensures;
-}
+pub update_image-requires-clause-same_but : goal.update_image-requires-clause-same_but
+update_image-requires-clause-same_but c =
+    let whole : c.unwrap-before.result.now ≡ c.args.image.now = (MatchOption-at_some _ _ _ c.unwrap-before.ensures c.as_array.ensures.cases).same in
+    untouched c.args.call c.args.image.now (c.state_at.ensures ∙ ap state_at whole) c.apply-reply.ensures
+    (c.named_slot-named.ensures ∙ ap (λ image. named_slot c.args.call (state_at image)) whole) c.answered_slot.ensures
 
-pub returns-in-Refused : goal.returns-in-Refused
-returns-in-Refused c =
-    answers_refused _ c.args.image.now c.state_at-state.ensures c.apply-reply.ensures c.requires c.in-Refused.is
-
-pub returns-in-Done : goal.returns-in-Done
-returns-in-Done c =
-    answers_done _ _ c.state_at-state.ensures c.apply-reply.ensures c.update_image.ensures
+pub returns-else-is_ok : goal.returns-else-is_ok
+returns-else-is_ok c =
+    let whole : c.unwrap-before.result.now ≡ c.args.image.now = (MatchOption-at_some _ _ _ c.unwrap-before.ensures c.as_array.ensures.cases).same in
+    answers_refused c.args.call c.args.image.now (c.state_at.ensures ∙ ap state_at whole) c.apply-reply.ensures c.requires
+    (sym c.is_ok.ensures.value ∙ c.if-is_ok.false)

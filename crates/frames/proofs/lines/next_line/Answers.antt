@@ -1,21 +1,16 @@
-use mathlib.Core.Path.{sym}
+-- `next_line` meets its contract: the input from `at` on, up to the first newline in it. Assumes nothing.
+use mathlib.Core.Path.{refl, ap, ◌∙◌}
 use borrow.Author.Rules.{rules}
-use borrow.Author.Tests.{eq-eqb, ne_eqb}
-use Rattle.frames.proofs.Cuts.{line-none, line-empty, line_on, line_found}
+use borrow.Author.Tests.{tests}
+use Rattle.std.proofs.lemmas.Iterator.{YieldsList-from_slice}
+use Rattle.std.proofs.lemmas.Iterator.Search.{position_from_yields_List}
+use Rattle.frames.specs.Lines.{line_of}
+use Rattle.frames.proofs.Cuts.{is_newline, line_cut, rest_is}
 use Rattle.frames.proofs.lines.next_line.Goals as goal
-use Rattle.frames.proofs.lines.next_line.Goals.{then-loop-end-test+else-input-end-ne-NEWLINE, else-loop-end-test}
-
-pub returns-then-input-at : goal.returns-then-input-at
-returns-then-input-at c = sym (line-none _ _ c.if-input-at.true)
-
-pub loop-end-preserved : goal.loop-end-preserved
-loop-end-preserved c = (
-  search rules,
-  search rules,
-  line_on _ _ _ c.loop-end.invariant.2 c.loop-end-test.true (ne_eqb _ _ c.if-input-end-ne-NEWLINE.true),
-)
 
 pub returns : goal.returns
 returns c =
-    line_found _ _ _ c.loop-end.invariant.2
-    (elim c.loop-end-test.branch [ then-loop-end-test+else-input-end-ne-NEWLINE w ↦ line-empty _ _ w.loop-end-test.true (eq-eqb _ _ w.if-input-end-ne-NEWLINE.false) | else-loop-end-test w ↦ line-none _ _ w.loop-end-test.false ])
+    line_cut c.unwrap_or-rest.result.now c.position-end.result
+    (position_from_yields_List {all = c.unwrap_or-rest.result.now} is_newline _ _ c.position-end.result c.position-end.ensures.ran (YieldsList-from_slice _ cc) (λ x b q k. search (rules, tests)))
+    c.unwrap_or.ensures
+    ∙ ap line_of (rest_is c.args.input.now c.args.at c.get.result _ c.get.ensures.lookup refl c.unwrap_or-rest.ensures)

@@ -2,20 +2,13 @@
 use mathlib.Core.Path.{sym, ◌∙◌}
 use native.Mathlib.Omega.{arith}
 use Rattle.frames.proofs.Refused.{long-line}
-use lib.Seq.{length-take-le}
 use Rattle.frames.proofs.Tellings.{line_unless, line_when, read_back}
-use borrow.Author.Rules.{rules}
 use Rattle.frames.proofs.lines.read_line.Goals as goal
+use Rattle.frames.proofs.lines.read_line.Goals.{then-line-gt-LINE_MAX-via-then-line-gt-LINE_MAX, then-line-gt-LINE_MAX-via-else-line-gt-LINE_MAX+then-not-is_hex}
 
 pub returns-then-line-gt-LINE_MAX : goal.returns-then-line-gt-LINE_MAX
-returns-then-line-gt-LINE_MAX c = sym (long-line c.args.line.now c.if-line-gt-LINE_MAX.true)
-
-pub returns-then-not-is_hex : goal.returns-then-not-is_hex
-returns-then-not-is_hex c =
-    line_unless c.args.line.now (sym c.is_hex.ensures ∙ c.if-not-is_hex.true)
-
-pub slice_bounds-read_frame-end : goal.slice_bounds-read_frame-end
-slice_bounds-read_frame-end c = sym (length-take-le _ _ (search rules))
+returns-then-line-gt-LINE_MAX c =
+    elim c.then-line-gt-LINE_MAX.branch [ then-line-gt-LINE_MAX-via-then-line-gt-LINE_MAX w ↦ sym (long-line c.args.line.now w.if-line-gt-LINE_MAX.true) | then-line-gt-LINE_MAX-via-else-line-gt-LINE_MAX+then-not-is_hex w ↦ line_unless c.args.line.now (sym w.is_hex.ensures ∙ w.if-not-is_hex.true) ]
 
 pub returns : goal.returns
 returns c =

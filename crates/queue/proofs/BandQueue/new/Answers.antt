@@ -1,12 +1,8 @@
 -- `BandQueue::new` meets its contract: no place of the ring is in use. Assumes nothing.
 use mathlib.Core.Path.{refl}
-use native.Mathlib.Omega.{arith}
 use Rattle.queue.specs.Stored.{window, entries}
 use Rattle.queue.proofs.BandQueue.new.Goals as goal
 
 pub returns : goal.returns
 unfolding window entries
-returns c = record {
-  well_formed = record { whole = refl; head_in = omega arith; len_in = omega arith };
-  entries_are = refl;
-}
+returns c = refl

@@ -1,22 +1,22 @@
-use mathlib.Core.Path.{refl, sym, ◌∙◌}
-use borrow.Author.Rules.{rules}
+use mathlib.Core.Path.{refl, ap, ◌∙◌}
+use Prim.Native.Nat.{ℕ}
+use native.Mathlib.Omega.{arith}
 use Rattle.queue.proofs.Removal.{removing_start, removing_drop, removing_keep, removed}
+use Rattle.queue.specs.Stored.{window, entries}
 use Rattle.queue.proofs.BandQueue.remove.Goals as goal
+use Rattle.queue.proofs.BandQueue.remove.Goals.{then-ne, else-ne}
 
 pub loop-place-init : goal.loop-place-init
-loop-place-init c = (refl, removing_start _ _ c.requires)
-
-pub loop-place-preserved-then-slot_of-slot : goal.loop-place-preserved-then-slot_of-slot
-loop-place-preserved-then-slot_of-slot c = (
-  c.loop-place.invariant.0,
-  removing_keep _ _ c.requires _ _ _ c.loop-place.invariant.1 (search rules) (λ is. c.if-slot_of-slot.true (c.slot_of.ensures ∙ is)),
-)
+loop-place-init c = (refl, removing_start c.args.self.now c.args.slot.0)
 
 pub loop-place-preserved : goal.loop-place-preserved
-loop-place-preserved c = (
-  c.loop-place.invariant.0,
-  removing_drop _ _ c.requires _ _ _ c.loop-place.invariant.1 (search rules) (sym c.slot_of.ensures ∙ c.if-slot_of-slot.false),
-)
+loop-place-preserved c =
+    let inv = c.loop-place.invariant.1 in
+    elim c.if-ne.branch [
+      | then-ne w ↦ rw (w.self-is, w.kept-is) (c.loop-place.invariant.0, removing_keep c.args.self.now c.args.slot.0 _ _ _ inv (omega arith) (λ is. grind (arith, c.slot_of.ensures, w.if-ne.ensures, is)))
+      | else-ne w ↦ rw (w.self-is, w.kept-is) (c.loop-place.invariant.0, removing_drop c.args.self.now c.args.slot.0 _ _ _ inv (omega arith) (grind (arith, c.slot_of.ensures, w.if-ne.ensures)))
+    ]
 
 pub returns : goal.returns
-returns c = removed _ _ c.requires _ _ _ _ c.loop-place.invariant.0 c.loop-place.invariant.1 c.loop-place-test.false
+unfolding entries
+returns c = ap (λ (h : ℕ). window c.loop-place.self.ring h c.loop-place.kept) c.loop-place.invariant.0 ∙ removed c.args.self.now c.args.slot.0 c.loop-place.self.ring c.loop-place.kept c.loop-place.place c.loop-place.invariant.1 (omega arith)

@@ -1,20 +1,24 @@
 use mathlib.Core.Path.{◌≡◌}
 use native.Mathlib.Omega.{arith}
-use borrow.Author.Rules.{rules}
-use Rattle.queue.proofs.Taking.{taken_none, turned_none, turned_one, turned_taken}
+use Rattle.queue.specs.Stored.{entries}
+use Rattle.queue.proofs.Taking.{taken_none, turned_none, turned_one, turned_answer, turned_rest}
 use Rattle.queue.proofs.BandQueue.take_at.Goals as goal
 
 pub returns-then-place-len : goal.returns-then-place-len
-returns-then-place-len c = taken_none _ c.requires _ c.if-place-len.true
+returns-then-place-len c = taken_none c.args.self.now c.args.place c.if-place-len.true
 
 pub loop-moved-init : goal.loop-moved-init
-loop-moved-init c = (search rules, turned_none _ c.requires)
+loop-moved-init c = turned_none c.args.self.now
 
 pub loop-moved-preserved : goal.loop-moved-preserved
-loop-moved-preserved c = (search rules, turned_one _ c.requires _ _ _ c.loop-moved.invariant.1 (search rules))
+loop-moved-preserved c = turned_one c.args.self.now _ _ _ c.loop-moved.invariant (omega arith)
 
 pub returns : goal.returns
+unfolding entries
 returns c =
     let l = c.loop-moved in
-    let all : c.args.place ≡ l.moved = omega arith in
-    rw all (turned_taken _ c.requires _ _ _ l.invariant.1 (search rules) _ c.slot_of-taken.ensures)
+    let all : c.args.place ≡ l._moved = omega arith in
+    rw all (record {
+      answer_is = turned_answer c.args.self.now _ _ _ l.invariant (omega arith) _ c.slot_of-taken.ensures;
+      entries_are = turned_rest c.args.self.now _ _ _ l.invariant (omega arith);
+    })

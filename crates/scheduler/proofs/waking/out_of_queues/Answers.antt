@@ -1,15 +1,13 @@
-use Rattle.scheduler.proofs.Removals.{out_begin, out_on, out_ended}
-use Rattle.scheduler.proofs.Arrays.{ring_below}
+-- The answers of `out_of_queues`: at the end the slot is out of all three. Assumes nothing.
+use Rattle.std.proofs.Common.{arith}
+use Rattle.scheduler.specs.Stored.{queues_of}
 use Rattle.scheduler.proofs.waking.out_of_queues.Goals as goal
 
-pub loop-band-init : goal.loop-band-init
-loop-band-init c = out_begin c.args.slot.0 _ c.requires
-
-pub remove-requires : goal.remove-requires
-remove-requires c = ring_below _ c.loop-band.invariant.whole _ _ c.loop-band-test.true
-
-pub loop-band-preserved : goal.loop-band-preserved
-loop-band-preserved c = out_on _ _ _ _ c.loop-band.invariant c.loop-band-test.true c.remove.ensures
-
 pub returns : goal.returns
-returns c = out_ended _ _ _ c.loop-band.invariant c.loop-band-test.false
+unfolding queues_of
+returns c =
+    let l = c.loop-queue.invariant in
+    record {
+      bands = l.whole;
+      queues_are = λ i. record { interactive = l.out 0 (omega arith) i; real_time = l.out 1 (omega arith) i; background = l.out 2 (omega arith) i };
+    }

@@ -1,21 +1,25 @@
--- `QoSScheduler::block_task` meets its contract: each way out cites its law. Assumes nothing.
-use Rattle.std.proofs.Common.{sym, ◌∙◌, rules}
-use Rattle.scheduler.proofs.OnSlots.{block_past, block_free, block_again, block_done}
+-- `block_task` meets its contract: the laws of `OnSlots` say what the block comes to on each way. Assumes nothing.
+use Rattle.rules.specs.declared.call.Call.TheVariants.{Block}
+use Rattle.scheduler.specs.Scheduler.{abs}
+use Rattle.scheduler.proofs.OnSlots.{block_missing, block_again, block_done}
+use Rattle.scheduler.proofs.Promises.{kept, meets_refused, meets_told}
 use Rattle.scheduler.proofs.scheduler.QoSScheduler.block_task.Goals as goal
 
-pub returns-then-index-ge-MAX_TASKS : goal.returns-then-index-ge-MAX_TASKS
-returns-then-index-ge-MAX_TASKS c = block_past (search rules) c.if-index-ge-MAX_TASKS.true c.refused.ensures
+pub returns-in_default : goal.returns-in_default
+returns-in_default c = meets_refused c.refused.ensures (block_missing _ _ c.in_default.ensures)
 
-pub returns-then-not-task : goal.returns-then-not-task
-returns-then-not-task c = block_free (search rules) _ (search rules) c.if-not-task.true c.refused-then-not-task.ensures
+pub returns-then-eq : goal.returns-then-eq
+returns-then-eq c = meets_refused c.refused-then-eq.ensures (block_again _ _ c.in-Some.ensures c.if-eq.ensures)
 
-pub returns-then-is : goal.returns-then-is
-returns-then-is c =
-    block_again (search rules) _ (search rules) c.if-not-task.false (sym c.is.ensures ∙ c.if-is.true)
-    c.refused-then-is.ensures
+pub invariant_of-self-clause-bands : goal.invariant_of-self-clause-bands
+invariant_of-self-clause-bands c = c.out_of_queues.ensures.bands
+
+pub invariant_of-self-clause-accepted : goal.invariant_of-self-clause-accepted
+unfolding abs
+invariant_of-self-clause-accepted c =
+    kept (Block c.args.slot) c.args.self (block_done _ _ c.in-Some.ensures c.if-eq.ensures c.out_of_queues.ensures.queues_are c.blocked.ensures)
 
 pub returns : goal.returns
+unfolding abs
 returns c =
-    block_done (search rules) _ (search rules) c.if-not-task.false
-    (sym c.is.ensures ∙ c.if-is.false)
-    c.out_of_queues-self.ensures c.blocked.ensures c.done.ensures
+    meets_told c.told.ensures (block_done _ _ c.in-Some.ensures c.if-eq.ensures c.out_of_queues.ensures.queues_are c.blocked.ensures)

@@ -1,11 +1,11 @@
--- `QoSScheduler::can_run_on_core` meets its contract: a slot past the table, and one of the table. Assumes nothing.
-use Rattle.std.proofs.Common.{sym}
-use Rattle.scheduler.proofs.OnQueries.{slot_runs}
-use Rattle.rules.proofs.OutOfTable.{no_slot_runs}
+-- `can_run_on_core` meets its contract: the array has the 64 slots. Assumes nothing.
+use Rattle.std.proofs.Common.{arith}
+use Rattle.std.proofs.lemmas.Grind.{common_steps}
+use Rattle.rules.specs.Queries.{can_run_on_core}
+use Rattle.scheduler.specs.Scheduler.{abs}
+use Rattle.scheduler.proofs.Arrays.{slots}
 use Rattle.scheduler.proofs.scheduler.QoSScheduler.can_run_on_core.Goals as goal
 
-pub returns-then-index-ge-MAX_TASKS : goal.returns-then-index-ge-MAX_TASKS
-returns-then-index-ge-MAX_TASKS c = sym (no_slot_runs _ c.if-index-ge-MAX_TASKS.true _ _)
-
 pub returns : goal.returns
-returns c = slot_runs c.requires _ c.if-index-ge-MAX_TASKS.false _ c.mask_permits.ensures
+unfolding can_run_on_core abs
+returns c = let l = slots c.args.self.now in grind (arith, common_steps)

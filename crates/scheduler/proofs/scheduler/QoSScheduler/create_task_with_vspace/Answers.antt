@@ -1,23 +1,41 @@
-use Rattle.std.proofs.Common.{refl, arith}
-use Rattle.scheduler.proofs.OnSlots.{create_on, create_full, create_done}
-use Rattle.scheduler.proofs.Promises.{meets_from}
+-- `create_task_with_vspace` meets its contract: the laws of `OnSlots` say what the create comes to on each way. Assumes nothing.
+use Rattle.std.proofs.Common.{rules, Bool, not}
+use borrow.Author.Tests.{tests}
+use Rattle.std.proofs.lemmas.Iterator.{YieldsList-from_slice}
+use Rattle.std.specs.Prelude.{None, Some}
+use Rattle.records.specs.declared.task.TaskControlBlock.{TaskControlBlock}
+use Rattle.rules.specs.declared.call.Call.TheVariants.{Create}
+use Rattle.scheduler.specs.Scheduler.{abs}
+use Rattle.scheduler.proofs.Arrays.{slots}
+use Rattle.scheduler.proofs.Searches.{searched}
+use Rattle.scheduler.proofs.OnSlots.{create_full, create_done}
+use Rattle.scheduler.proofs.Promises.{kept, meets_refused, meets_told}
 use Rattle.scheduler.proofs.scheduler.QoSScheduler.create_task_with_vspace.Goals as goal
 
-pub loop-free-init : goal.loop-free-init
-loop-free-init c = (refl, (c.requires, omega arith))
+abbrev is_free : TaskControlBlock → Bool
+is_free t = not t.in_use
 
-pub returns-then-not-self-free : goal.returns-then-not-self-free
-returns-then-not-self-free c =
-    let inv = c.loop-free.invariant in
-    meets_from inv.0 (create_done inv.1.0 _ inv.1.1 c.loop-free-test.true _ c.if-not-self-free.true-raw
-    c.created.ensures c.done.ensures)
+pub returns-in_default : goal.returns-in_default
+unfolding abs
+returns-in_default c =
+    meets_refused c.refused.ensures (create_full (abs c.args.self) _ _ _ _ _
+    (searched is_free (slots c.args.self) _ _ None c.in_default.ensures.ran
+    (YieldsList-from_slice c.args.self.tasks cc) (λ x b q k. search (rules, tests))))
 
-pub loop-free-preserved : goal.loop-free-preserved
-loop-free-preserved c =
-    let inv = c.loop-free.invariant in
-    (inv.0, (inv.1.0, create_on inv.1.0 _ inv.1.1 _ c.loop-free-test.true c.if-not-self-free.false-raw))
+pub invariant_of-self-clause-accepted : goal.invariant_of-self-clause-accepted
+unfolding abs
+invariant_of-self-clause-accepted c =
+    kept (Create c.args.tid c.args.qos c.args.context_handle c.args.cr3 c.args.rsp0) c.args.self
+    (create_done (abs c.args.self) _ _ _ _ _
+    (searched is_free (slots c.args.self) _ _ (Some c.in-Some.free) c.in-Some.ensures.ran
+    (YieldsList-from_slice c.args.self.tasks cc) (λ x b q k. search (rules, tests)))
+    c.created.ensures)
 
 pub returns : goal.returns
+unfolding abs
 returns c =
-    let inv = c.loop-free.invariant in
-    meets_from inv.0 (create_full inv.1.0 _ inv.1.1 c.loop-free-test.false c.refused.ensures)
+    meets_told c.told.ensures
+    (create_done (abs c.args.self) _ _ _ _ _
+    (searched is_free (slots c.args.self) _ _ (Some c.in-Some.free) c.in-Some.ensures.ran
+    (YieldsList-from_slice c.args.self.tasks cc) (λ x b q k. search (rules, tests)))
+    c.created.ensures)

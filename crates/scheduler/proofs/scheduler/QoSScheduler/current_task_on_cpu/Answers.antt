@@ -1,27 +1,28 @@
--- `QoSScheduler::current_task_on_cpu` meets its contract: a core past the last, one without a holder, and one with a holder. Assumes nothing.
-use Rattle.std.proofs.Common.{sym, arith}
-use Rattle.scheduler.proofs.OnQueries.{core_idle, core_record}
-use Rattle.rules.proofs.OutOfTable.{no_core_record}
-use Rattle.scheduler.proofs.Holders.{holder_below}
+-- `current_task_on_cpu` meets its contract: it reads the core's holder, and the record of that. Assumes nothing.
+use Rattle.std.proofs.Common.{◌≤◌, sym, arith, le-leb}
+use borrow.Author.Tests.{lt-leb}
+use Rattle.rules.specs.Queries.{current_task_on_cpu}
+use Rattle.rules.specs.State.{none_byte}
+use Rattle.scheduler.specs.Scheduler.{abs}
+use Rattle.scheduler.proofs.Arrays.{cores}
 use Rattle.scheduler.proofs.scheduler.QoSScheduler.current_task_on_cpu.Goals as goal
 
-pub returns-then-core-ge-MAX_CPUS : goal.returns-then-core-ge-MAX_CPUS
-returns-then-core-ge-MAX_CPUS c = sym (no_core_record _ c.if-core-ge-MAX_CPUS.true _)
+pub returns-in_err-get : goal.returns-in_err-get
+unfolding current_task_on_cpu
+returns-in_err-get c =
+    let past : 64 ≤ c.args.core = omega (arith, cores c.args.self.now, c.in_err-get.ensures.lookup.3) in
+    rw (le-leb 64 c.args.core past) c.from_residual.ensures
 
-pub bounds-self-index : goal.bounds-self-index
-bounds-self-index c =
-    holder_below c.requires c.if-core-ge-MAX_CPUS.false _
-    c.holder_of-holder.ensures c.in-Some.is
+pub returns-in_err-holder : goal.returns-in_err-holder
+unfolding current_task_on_cpu abs
+returns-in_err-holder c =
+    let l = c.in_ok-get.ensures.lookup.3 in
+    rw (lt-leb 64 c.args.core (omega (arith, cores c.args.self.now, l.0)))
+    (rw (sym (l.1 none_byte), sym c.in_err-holder.ensures) c.from_residual-in_err-holder.ensures)
 
-pub returns-in-None : goal.returns-in-None
-returns-in-None c =
-    core_idle c.requires c.if-core-ge-MAX_CPUS.false _
-    c.holder_of-holder.ensures c.in-None.is
-
-pub returns-in-Some : goal.returns-in-Some
-returns-in-Some c =
-    core_record c.requires c.if-core-ge-MAX_CPUS.false _
-    c.holder_of-holder.ensures c.in-Some.is _
-
-pub offset_bounds-self-index : goal.offset_bounds-self-index
-offset_bounds-self-index c = omega (arith, holder_below c.requires c.if-core-ge-MAX_CPUS.false _ c.holder_of-holder.ensures c.in-Some.is)
+pub returns : goal.returns
+unfolding current_task_on_cpu abs
+returns c =
+    let l = c.in_ok-get.ensures.lookup.3 in
+    rw (lt-leb 64 c.args.core (omega (arith, cores c.args.self.now, l.0)))
+    (rw (sym (l.1 none_byte), sym c.in_ok-holder.ensures) c.task.ensures)

@@ -1,35 +1,39 @@
--- `QoSScheduler::enqueue_ready` meets its contract: each way out cites its law. Assumes nothing.
-use Rattle.std.proofs.Common.{sym, ◌∙◌, rules}
-use borrow.Author.Tests.{not-true, not-false}
-use Rattle.scheduler.proofs.OnSlots.{enqueue_past, enqueue_free, enqueue_again, enqueue_full, enqueue_done}
-use Rattle.scheduler.proofs.Arrays.{ring_below}
+-- `enqueue_ready` meets its contract: the laws of `OnSlots` say what the enqueue comes to on each way. Assumes nothing.
+use Rattle.std.proofs.Common.{ap, ◌∙◌}
+use Rattle.queue.specs.Entries.{push_result, pushed}
+use Rattle.rules.specs.declared.call.Call.TheVariants.{Enqueue}
+use Rattle.scheduler.specs.Scheduler.{abs}
+use Rattle.scheduler.proofs.Arrays.{queue_at_lem, queue_changed}
+use Rattle.scheduler.proofs.OnSlots.{enqueue_missing, enqueue_again, enqueue_full, enqueue_done}
+use Rattle.scheduler.proofs.Promises.{kept, meets_refused, meets_told}
 use Rattle.scheduler.proofs.scheduler.QoSScheduler.enqueue_ready.Goals as goal
 
-pub returns-then-index-ge-MAX_TASKS : goal.returns-then-index-ge-MAX_TASKS
-returns-then-index-ge-MAX_TASKS c = enqueue_past (search rules) c.if-index-ge-MAX_TASKS.true c.refused.ensures
+pub returns-in_default : goal.returns-in_default
+returns-in_default c = meets_refused c.refused.ensures (enqueue_missing _ _ c.in_default.ensures)
 
-pub returns-then-not-task : goal.returns-then-not-task
-returns-then-not-task c = enqueue_free (search rules) _ (search rules) c.if-not-task.true c.refused-then-not-task.ensures
+pub returns-then-eq : goal.returns-then-eq
+returns-then-eq c = meets_refused c.refused-then-eq.ensures (enqueue_again _ _ c.in-Some.ensures c.if-eq.ensures)
 
-pub returns-then-is : goal.returns-then-is
-returns-then-is c =
-    enqueue_again (search rules) _ (search rules) c.if-not-task.false
-    (sym c.is.ensures ∙ c.if-is.true) c.refused-then-is.ensures
+pub returns-in-Err : goal.returns-in-Err
+returns-in-Err c =
+    meets_refused c.refused-in-Err.ensures
+    (enqueue_full _ _ c.in-Some.ensures c.if-eq.ensures
+    (c.in-Err.ensures.answer_is ∙ ap (push_result c.args.slot.0) (queue_at_lem c.args.self _ c.code-band.ensures.is _)))
 
-pub push-pushed-requires : goal.push-pushed-requires
-push-pushed-requires c =
-    ring_below _ c.requires.whole _ _ (search rules)
-
-pub returns-then-not-pushed : goal.returns-then-not-pushed
-returns-then-not-pushed c =
-    enqueue_full (search rules) _ (search rules) c.if-not-task.false
-    (sym c.is.ensures ∙ c.if-is.false)
-    c.code-band.ensures _ c.push-pushed.ensures (not-true _ c.if-not-pushed.true)
-    c.refused-then-not-pushed.ensures
+pub invariant_of-self-clause-accepted : goal.invariant_of-self-clause-accepted
+unfolding abs
+invariant_of-self-clause-accepted c =
+    kept (Enqueue c.args.slot) c.args.self
+    (enqueue_done _ _ c.in-Some.ensures c.if-eq.ensures
+    (c.in_default-push.ensures.answer_is ∙ ap (push_result c.args.slot.0) (queue_at_lem c.args.self _ c.code-band.ensures.is _))
+    (queue_changed c.args.self.queues c.args.self.bands _ c.code-band.ensures.is _ (pushed c.args.slot.0) _ c.in_default-push.ensures.entries_are)
+    c.with_state.ensures)
 
 pub returns : goal.returns
+unfolding abs
 returns c =
-    enqueue_done (search rules) _ (search rules) c.if-not-task.false
-    (sym c.is.ensures ∙ c.if-is.false) c.code-band.ensures _
-    c.push-pushed.ensures (not-false _ c.if-not-pushed.false) c.with_state.ensures
-    c.done.ensures
+    meets_told c.told.ensures
+    (enqueue_done _ _ c.in-Some.ensures c.if-eq.ensures
+    (c.in_default-push.ensures.answer_is ∙ ap (push_result c.args.slot.0) (queue_at_lem c.args.self _ c.code-band.ensures.is _))
+    (queue_changed c.args.self.queues c.args.self.bands _ c.code-band.ensures.is _ (pushed c.args.slot.0) _ c.in_default-push.ensures.entries_are)
+    c.with_state.ensures)

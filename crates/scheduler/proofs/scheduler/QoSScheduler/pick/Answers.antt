@@ -1,98 +1,49 @@
-use Rattle.std.proofs.Common.{refl, ap, arith, rules}
-use Rattle.scheduler.specs.declared.scheduler.QoSScheduler.{QoSScheduler}
+-- The answers of `pick`, from the laws of `OnBands`. Assumes nothing.
+use Rattle.std.proofs.Common.{rules, arith, ap, sym, ◌∙◌, refl}
 use Rattle.rules.specs.Picking.{rule_p}
+use Rattle.scheduler.specs.declared.scheduler.QoSScheduler.{QoSScheduler}
 use Rattle.scheduler.specs.Scheduler.{abs}
-use Rattle.scheduler.proofs.OnCores.{on_to_band, place_low, entry_low, on_to_place, pick_found, pick_none}
-use Rattle.scheduler.proofs.Promises.{gives_as}
-use Rattle.scheduler.proofs.Seeking.{seeking_first}
-use Rattle.scheduler.proofs.Arrays.{ring_below}
+use Rattle.scheduler.proofs.OnBands.{band_at, pick_kept, pick_none, first_low, pick_comes, pick_gives}
+use Rattle.scheduler.proofs.Promises.{gives-chosen}
 use Rattle.scheduler.proofs.scheduler.QoSScheduler.pick.Goals as goal
 
-pub loop-band-init : goal.loop-band-init
-loop-band-init c = (refl, (c.requires.valid, seeking_first _ _))
+pub offset_bounds-self-slot : goal.offset_bounds-self-slot
+offset_bounds-self-slot c = omega (arith, first_low c.loop-band.self c.args.core c.requires c.in-Some.ensures)
 
-pub entry_at-entry-requires : goal.entry_at-entry-requires
-entry_at-entry-requires c = ring_below _ c.loop-band.invariant.1.0.whole _ _ (search rules)
+pub bounds-self-slot : goal.bounds-self-slot
+bounds-self-slot c = first_low c.loop-band.self c.args.core c.requires c.in-Some.ensures
 
-pub loop-band-preserved-in-None : goal.loop-band-preserved-in-None
-loop-band-preserved-in-None c =
-    let inv = c.loop-band.invariant in (
-      inv.0,
-      (
-        inv.1.0,
-        on_to_band inv.1.0 inv.1.1 c.loop-band-test.true _
-            c.entry_at-entry.ensures c.in-None.is,
-      ),
-    )
+pub offset_bounds-self-slot-in-Some : goal.offset_bounds-self-slot-in-Some
+offset_bounds-self-slot-in-Some c = omega (arith, first_low c.loop-band.self c.args.core c.requires c.in-Some.ensures)
 
-pub bounds-self-index : goal.bounds-self-index
-bounds-self-index c =
-    let inv = c.loop-band.invariant in
-    entry_low inv.1.0 inv.1.1 c.loop-band-test.true _ c.entry_at-entry.ensures
-    _ c.in-Some.is
-
-pub take_at-taken-requires : goal.take_at-taken-requires
-take_at-taken-requires c =
-    ring_below _ c.loop-band.invariant.1.0.whole _ _ (search rules)
-
-pub bounds-self-index-then-mask_permits : goal.bounds-self-index-then-mask_permits
-bounds-self-index-then-mask_permits c =
-    let inv = c.loop-band.invariant in
-    entry_low inv.1.0 inv.1.1 c.loop-band-test.true _ c.entry_at-entry.ensures _ c.in-Some.is
-
-pub returns-then-mask_permits : goal.returns-then-mask_permits
-returns-then-mask_permits c =
-    let inv = c.loop-band.invariant in
-    gives_as c.args.form refl (ap (λ (s : QoSScheduler). rule_p c.args.core (abs s)) inv.0) (pick_found inv.1.0 inv.1.1
-    c.loop-band-test.true _
-    c.entry_at-entry.ensures _ c.in-Some.is _ c.mask_permits.ensures
-    c.args.form c.args.previous c.requires.core_bound c.if-mask_permits.true
-    c.take_at-taken.ensures c.picked.ensures c.pick_answer.ensures)
-
-pub loop-band-smaller : goal.loop-band-smaller
-loop-band-smaller c =
-    let inv = c.loop-band.invariant in
-    omega (
-      arith,
-      place_low inv.1.0 inv.1.1 c.loop-band-test.true _
-          c.entry_at-entry.ensures _ c.in-Some.is,
-    )
-
-pub loop-band-preserved : goal.loop-band-preserved
-loop-band-preserved c =
-    let inv = c.loop-band.invariant in (
-      inv.0,
-      (
-        inv.1.0,
-        on_to_place inv.1.0 inv.1.1 c.loop-band-test.true _
-            c.entry_at-entry.ensures _ c.in-Some.is _
-            c.mask_permits.ensures c.if-mask_permits.false,
-      ),
-    )
-
-pub returns : goal.returns
-returns c =
-    let inv = c.loop-band.invariant in
-    gives_as c.args.form refl (ap (λ (s : QoSScheduler). rule_p c.args.core (abs s)) inv.0)
-    (pick_none inv.1.0 c.args.form c.args.previous c.requires.core_bound inv.1.1 c.loop-band-test.false
-    c.choice_answer.ensures)
-
-pub offset_bounds-self-index : goal.offset_bounds-self-index
-offset_bounds-self-index c =
-    let inv = c.loop-band.invariant in
-    omega (arith, entry_low inv.1.0 inv.1.1 c.loop-band-test.true _ c.entry_at-entry.ensures _ c.in-Some.is)
-
-pub offset_bounds-self-index-then-mask_permits : goal.offset_bounds-self-index-then-mask_permits
-offset_bounds-self-index-then-mask_permits c =
-    let inv = c.loop-band.invariant in
-    omega (arith, entry_low inv.1.0 inv.1.1 c.loop-band-test.true _ c.entry_at-entry.ensures _ c.in-Some.is)
+pub bounds-self-slot-in-Some : goal.bounds-self-slot-in-Some
+bounds-self-slot-in-Some c = first_low c.loop-band.self c.args.core c.requires c.in-Some.ensures
 
 pub overflow_cast-self : goal.overflow_cast-self
-overflow_cast-self c =
-    let inv = c.loop-band.invariant in
-    omega (arith, entry_low inv.1.0 inv.1.1 c.loop-band-test.true _ c.entry_at-entry.ensures _ c.in-Some.is)
+overflow_cast-self c = omega (arith, first_low c.loop-band.self c.args.core c.requires c.in-Some.ensures)
 
-pub overflow_add-place : goal.overflow_add-place
-overflow_add-place c =
-    let inv = c.loop-band.invariant in
-    omega (arith, place_low inv.1.0 inv.1.1 c.loop-band-test.true _ c.entry_at-entry.ensures _ c.in-Some.is)
+pub invariant_of-self-clause-accepted : goal.invariant_of-self-clause-accepted
+invariant_of-self-clause-accepted c =
+    pick_kept c.loop-band.self c.args.core c.requires
+    (pick_comes c.loop-band.self c.args.core c.requires c.in-Some.ensures c.code-at.ensures.is (search (rules, band_at))
+    c.loop-band.invariant.before c.index-self-at.result _ (search rules) _ c.picked.ensures)
+
+pub returns-in-Some : goal.returns-in-Some
+unfolding abs
+returns-in-Some c =
+    pick_gives c.loop-band.self c.args.core c.requires c.in-Some.ensures c.code-at.ensures.is (search (rules, band_at))
+    c.loop-band.invariant.before c.index-self-at.result _ (search rules) _ c.picked.ensures
+    c.args.form c.args.previous c.loop-band.invariant.same c.pick_answer.ensures refl
+
+pub invariant_of-self-2-clause-accepted : goal.invariant_of-self-2-clause-accepted
+invariant_of-self-2-clause-accepted c =
+    pick_kept c.loop-band.self c.args.core c.requires
+    (pick_none c.loop-band.self c.args.core c.requires c.loop-band.invariant.before (omega arith))
+
+pub returns : goal.returns
+unfolding abs
+returns c =
+    gives-chosen c.args.form c.args.previous 0
+    (ap (λ (s : QoSScheduler). rule_p c.args.core (abs s)) (sym c.loop-band.invariant.same)
+    ∙ pick_none c.loop-band.self c.args.core c.requires c.loop-band.invariant.before (omega arith))
+    tt c.choice_answer.ensures refl

@@ -1,11 +1,11 @@
--- `QoSScheduler::pick` meets its contract: the loop seeks as `Seeking` says, and the scheduler is not changed before it ends. Assumes nothing.
-use Rattle.std.proofs.Common.{◌≡◌, ◌+◌, ◌-◌, ◌*◌}
-use Rattle.scheduler.specs.Scheduler.{abs, Valid}
-use Rattle.scheduler.proofs.Seeking.{Seeking}
+-- `pick` meets its contract. The invariant: no band before this one has an entry that may use the core. Assumes nothing.
+use Rattle.std.proofs.Common.{◌≡◌}
+use Rattle.scheduler.specs.Scheduler.{abs}
+use Rattle.scheduler.proofs.OnBands.{NoBandBefore}
 use Rattle.scheduler.proofs.scheduler.QoSScheduler.pick.Given as goal
 
 abbrev pub invariant-loop-band : goal.invariant-loop-band
-invariant-loop-band l = (l.self ≡ l.initial.self) × (Valid l.self × Seeking (abs l.self) l.core l.band l.place)
-
-abbrev pub decreases-loop-band : goal.decreases-loop-band
-decreases-loop-band l = (3 - l.band) * 65 + (64 - l.place)
+invariant-loop-band l = record {
+  same : l.self ≡ l.fn.self;
+  before : NoBandBefore (abs l.self) l.core l.band-index;
+}

@@ -1,52 +1,31 @@
--- `QoSScheduler::plan_voluntary_yield_on_cpu` meets its contract: each way out cites its law. Assumes nothing.
-use Rattle.std.proofs.Common.{sym, ◌∙◌, arith, rules}
-use Rattle.scheduler.proofs.Holders.{holder_below}
-use Rattle.scheduler.proofs.OnPlans.{yield_past, yield_none, yield_idle, sent_back_valid, yield_running_lem}
-use Rattle.scheduler.proofs.Arrays.{ring_below}
+-- `plan_voluntary_yield_on_cpu` meets its contract: the laws of `OnCores` say what the yield comes to on each way. Assumes nothing.
+use Rattle.scheduler.specs.Scheduler.{abs}
+use Rattle.scheduler.proofs.OnCores.{yield_past, yield_none, yield_other, holder_low, yield_kept, yield_comes}
+use Rattle.scheduler.proofs.Promises.{meets_given, meets_refused}
 use Rattle.scheduler.proofs.scheduler.QoSScheduler.plan_voluntary_yield_on_cpu.Goals as goal
 
 pub returns-then-core-ge-MAX_CPUS : goal.returns-then-core-ge-MAX_CPUS
-returns-then-core-ge-MAX_CPUS c = yield_past (search rules) c.if-core-ge-MAX_CPUS.true c.refused.ensures
+returns-then-core-ge-MAX_CPUS c = meets_refused c.refused.ensures (yield_past c.args.self c.args.core c.if-core-ge-MAX_CPUS.true)
 
 pub returns-in_default : goal.returns-in_default
 returns-in_default c =
-    yield_none (search rules) (search rules) _ c.holder_of-previous.ensures c.in_default.is c.pick.ensures
+    meets_given c.pick.ensures (yield_none c.args.self c.args.core c.if-core-ge-MAX_CPUS.false _ c.in_default.ensures c.in_default.is)
 
-pub bounds-self-index : goal.bounds-self-index
-bounds-self-index c =
-    holder_below c.requires c.if-core-ge-MAX_CPUS.false _
-    c.holder_of-previous.ensures c.in-Some.is
+pub bounds-self-slot : goal.bounds-self-slot
+bounds-self-slot c = holder_low c.args.self c.args.core c.if-core-ge-MAX_CPUS.false _ c.in-Some.ensures
 
-pub returns-then-not-is : goal.returns-then-not-is
-returns-then-not-is c =
-    yield_idle (search rules) (search rules) _ c.holder_of-previous.ensures _ c.in-Some.is _
-    (sym c.is.ensures ∙ c.if-not-is.true) c.refused-then-not-is.ensures
+pub returns-then-ne : goal.returns-then-ne
+returns-then-ne c =
+    meets_refused c.refused-then-ne.ensures (yield_other c.args.self c.args.core c.if-core-ge-MAX_CPUS.false _ c.in-Some.ensures _ c.if-ne.ensures)
 
-pub push-pushed-requires : goal.push-pushed-requires
-push-pushed-requires c =
-    ring_below _ c.requires.whole _ _ (search rules)
-
-pub bounds-self-index-2 : goal.bounds-self-index-2
-bounds-self-index-2 c = holder_below c.requires c.if-core-ge-MAX_CPUS.false _ c.holder_of-previous.ensures c.in-Some.is
-
-pub pick-requires-2 : goal.pick-requires-2
-pick-requires-2 c = record {
-  valid = sent_back_valid c.requires c.if-core-ge-MAX_CPUS.false _
-      c.holder_of-previous.ensures _ c.in-Some.is _
-      (sym c.is.ensures ∙ c.if-not-is.false)
-      c.code-band.ensures _ c.push-pushed.ensures c.with_state.ensures;
-  core_bound = c.if-core-ge-MAX_CPUS.false;
-}
+pub invariant_of-self-clause-accepted : goal.invariant_of-self-clause-accepted
+invariant_of-self-clause-accepted c =
+    yield_kept c.args.self c.args.core c.if-core-ge-MAX_CPUS.false _ c.in-Some.ensures _ c.if-ne.ensures
+    c.code-band.ensures _ c.push.ensures c.with_state.ensures
 
 pub returns : goal.returns
+unfolding abs
 returns c =
-    yield_running_lem c.requires c.if-core-ge-MAX_CPUS.false _ c.holder_of-previous.ensures _
-    c.in-Some.is _ (sym c.is.ensures ∙ c.if-not-is.false)
-    c.code-band.ensures _ c.push-pushed.ensures
-    c.with_state.ensures c.pick-2.ensures
-
-pub offset_bounds-self-index : goal.offset_bounds-self-index
-offset_bounds-self-index c = omega (arith, holder_below c.requires c.if-core-ge-MAX_CPUS.false _ c.holder_of-previous.ensures c.in-Some.is)
-
-pub offset_bounds-self-index-2 : goal.offset_bounds-self-index-2
-offset_bounds-self-index-2 c = omega (arith, holder_below c.requires c.if-core-ge-MAX_CPUS.false _ c.holder_of-previous.ensures c.in-Some.is)
+    meets_given c.pick-2.ensures
+    (yield_comes c.args.self c.args.core c.if-core-ge-MAX_CPUS.false _ c.in-Some.ensures _ c.if-ne.ensures
+    c.code-band.ensures _ c.push.ensures c.with_state.ensures)

@@ -1,11 +1,11 @@
--- `QoSScheduler::task` meets its contract: a slot past the table, and one of the table. Assumes nothing.
-use Rattle.std.proofs.Common.{sym}
-use Rattle.scheduler.proofs.OnQueries.{slot_record}
-use Rattle.rules.proofs.OutOfTable.{no_slot_record}
+-- `task` meets its contract: the array has the 64 slots. Assumes nothing.
+use Rattle.std.proofs.Common.{arith}
+use Rattle.std.proofs.lemmas.Grind.{common_steps}
+use Rattle.rules.specs.Queries.{task_at}
+use Rattle.scheduler.specs.Scheduler.{abs}
+use Rattle.scheduler.proofs.Arrays.{slots}
 use Rattle.scheduler.proofs.scheduler.QoSScheduler.task.Goals as goal
 
-pub returns-then-index-ge-MAX_TASKS : goal.returns-then-index-ge-MAX_TASKS
-returns-then-index-ge-MAX_TASKS c = sym (no_slot_record _ c.if-index-ge-MAX_TASKS.true _)
-
 pub returns : goal.returns
-returns c = slot_record c.requires _ c.if-index-ge-MAX_TASKS.false
+unfolding task_at abs
+returns c = let l = slots c.args.self.now in grind (arith, common_steps)

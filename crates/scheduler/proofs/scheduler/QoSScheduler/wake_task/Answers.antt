@@ -1,21 +1,32 @@
--- `QoSScheduler::wake_task` meets its contract: each way out cites its law; the check finds the one of a task that no core holds. Assumes nothing.
-use Rattle.std.proofs.Common.{sym, ◌∙◌, rules, arith}
-use Rattle.scheduler.proofs.OnSlots.{wake_past, wake_free, wake_other, wake_held}
+-- `wake_task` meets its contract: the laws of `OnSlots` say what the wake comes to on each way. Assumes nothing.
+use Rattle.rules.specs.declared.call.Call.TheVariants.{Wake}
+use Rattle.scheduler.specs.Scheduler.{abs}
+use Rattle.scheduler.proofs.OnSlots.{held_is, wake_missing, wake_awake, wake_free, wake_held}
+use Rattle.scheduler.proofs.Promises.{kept, meets_as, meets_refused, meets_told}
 use Rattle.scheduler.proofs.scheduler.QoSScheduler.wake_task.Goals as goal
 
-pub returns-then-index-ge-MAX_TASKS : goal.returns-then-index-ge-MAX_TASKS
-returns-then-index-ge-MAX_TASKS c = wake_past (search rules) c.if-index-ge-MAX_TASKS.true c.refused.ensures
+pub returns-in_default : goal.returns-in_default
+returns-in_default c = meets_refused c.refused.ensures (wake_missing _ _ c.in_default.ensures)
 
-pub returns-then-not-task : goal.returns-then-not-task
-returns-then-not-task c = wake_free (search rules) _ (search rules) c.if-not-task.true c.refused-then-not-task.ensures
+pub returns-then-ne : goal.returns-then-ne
+returns-then-ne c = meets_refused c.refused-then-ne.ensures (wake_awake _ _ c.in-Some.ensures c.if-ne.ensures)
 
-pub returns-then-not-is : goal.returns-then-not-is
-returns-then-not-is c =
-    wake_other (search rules) _ (search rules) c.if-not-task.false
-    (sym c.is.ensures ∙ c.if-not-is.true) c.refused-then-not-is.ensures
+pub returns-then-is_none : goal.returns-then-is_none
+returns-then-is_none c =
+    meets_as c.enqueue_ready.ensures
+    (wake_free (abs c.args.self) c.args.slot.0 c.in-Some.ensures c.if-ne.ensures
+    (held_is (abs c.args.self) c.args.slot.0 c.core_holding.ensures c.if-is_none.ensures))
+
+pub invariant_of-self-clause-accepted : goal.invariant_of-self-clause-accepted
+unfolding abs
+invariant_of-self-clause-accepted c =
+    kept (Wake c.args.slot) c.args.self
+    (wake_held (abs c.args.self) c.args.slot.0 c.in-Some.ensures c.if-ne.ensures
+    (held_is (abs c.args.self) c.args.slot.0 c.core_holding.ensures c.if-is_none.ensures) c.with_state.ensures)
 
 pub returns : goal.returns
+unfolding abs
 returns c =
-    wake_held (search rules) _ (search rules) c.if-not-task.false
-    (sym c.is.ensures ∙ c.if-not-is.false) c.core_holding.ensures
-    (omega arith) c.with_state.ensures c.done.ensures
+    meets_told c.told.ensures
+    (wake_held (abs c.args.self) c.args.slot.0 c.in-Some.ensures c.if-ne.ensures
+    (held_is (abs c.args.self) c.args.slot.0 c.core_holding.ensures c.if-is_none.ensures) c.with_state.ensures)

@@ -1,0 +1,4 @@
+-- Lists of calls.
+--
+--   Filling   the calls that fill a queue
+pub mod Filling

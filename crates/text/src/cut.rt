@@ -1,0 +1,16 @@
+// Parts of a run of bytes, as far as there are so many.
+ghost use Rattle.std.specs.Prelude.{◌≡◌, take, drop};
+
+// The first bytes, as many as are asked for and there are.
+pub fn front(bytes: &[u8], n: usize) -> &[u8]
+    ensures { result.now ≡ take n bytes.now }
+{
+    bytes.get(..n).unwrap_or(bytes)
+}
+
+// Those from a place on; none where there is no such place.
+pub fn behind(bytes: &[u8], at: usize) -> &[u8]
+    ensures { result.now ≡ drop at bytes.now }
+{
+    bytes.get(at..).unwrap_or(&[])
+}
