@@ -16,7 +16,8 @@ use std::io::Read;
 // How much is read at a time, and the room for what is answered.
 const BLOCK: usize = 65_536;
 
-// A stream, and whether all answers so far were written: a flag and no Result, since the stream counts either way.
+// A stream, and whether all answers so far were written: a flag and no Result, since what is promised of the stream
+// (`FeedsBlock`) holds either way.
 #[derive(Clone, Copy)]
 struct Progress {
     stream: Stream,
@@ -30,14 +31,19 @@ fn main(rt: HostRuntime) {
     let mut out = [0u8; BLOCK];
     // A proved loop has to end, and nothing says that the input does: so it is given more turns than any run uses up.
     for _ in 0..u64::MAX {
-        let got = stdin.read(&mut input);
-        let is_unread = got.is_err();
-        let n = got.unwrap_or(0);
         // a read that finds nothing is the end of the input; one that fails is not, so that a line which it may have cut is not
         // answered
-        let done = answer_block(&rt, stream, &input[..n], n == 0 && !is_unread, &mut out);
-        if n == 0 || !done.is_written {
-            report(&rt, is_unread, !done.is_written);
+        let Ok(n) = stdin.read(&mut input) else {
+            return report(&rt, "standard input could not be read to its end");
+        };
+        let done = answer_block(&rt, stream, &input[..n], n == 0, &mut out);
+        if !done.is_written {
+            return report(
+                &rt,
+                "an answer could not be written, and what follows it is not answered",
+            );
+        }
+        if n == 0 {
             return;
         }
         stream = done.stream;
@@ -70,14 +76,7 @@ fn answer_block(
     }
 }
 
-// Says what went wrong, if something did. Where that can't be written either, there is nowhere left to say so.
-fn report(rt: &impl Eprint, is_unread: bool, is_unwritten: bool) {
-    if is_unread {
-        let _ = eprintln!(rt; "calls: standard input could not be read to its end");
-    }
-    if is_unwritten {
-        let _ = eprintln!(rt;
-            "calls: an answer could not be written, and what follows it is not answered"
-        );
-    }
+// Says what went wrong. Where that can't be written either, there is nowhere left to say so.
+fn report(rt: &impl Eprint, wrong: &str) {
+    let _ = eprintln!(rt; "calls: {wrong}");
 }

@@ -2,18 +2,19 @@
 -- way out: of slots, cores and queues, and of the whole image. Assumes nothing.
 use denote.Enum.Bare.{sameb}
 use mathlib.Core.Path.{◌≡◌, refl, sym, ap, ◌∙◌}
-use mathlib.Core.Bool.{Bool, true, false, not, ◌&&◌, and-true, and_assoc, and_comm}
+use mathlib.Core.Bool.{Bool, true, false, ◌&&◌, and_assoc, and_comm}
 use mathlib.Core.Logic.Iff
 use mathlib.Core.List.{List}
-use Prim.Native.Nat.{ℕ, zero, suc, ◌+◌, ◌-◌, ◌≤◌, ◌<◌}
-use native.Mathlib.Nat.{add-zero, add-suc, add_assoc}
+use Prim.Native.Nat.{ℕ, ◌+◌, ◌-◌, ◌≤◌, ◌<◌}
+use native.Mathlib.Numerals.{one-add}
 use native.Mathlib.Omega.{arith}
-use borrow.Author.Tests.{lt-ltb, le-ltb, le-leb, lt-leb, eq-eqb, ne_eqb}
+use borrow.Author.Tests.{le-ltb, le-leb, lt-leb, eq-eqb, ne_eqb}
 use lib.Dec.{ltb, eqb}
-use lib.ListN.{length, get_or, take, drop, length-drop}
-use lib.Seq.{get_or-drop, take-suc}
+use lib.ListN.{length, get_or, take, drop, length-drop, length-take}
+use lib.Seq.{get_or-drop, get_or-take}
 use Rattle.std.specs.Array.{IsWholeChunk}
 use Rattle.std.specs.Borrow.{Bor}
+use Rattle.std.proofs.lemmas.List.{get_or_default}
 use Rattle.std.specs.Prelude.{◌≢◌, Option, None, Some, MatchOption}
 use Rattle.records.specs.declared.band.QoSClass.{QoSClass}
 use Rattle.records.specs.declared.band.QoSClass.TheVariants.{UserInteractive, RealTimeIO, Background}
@@ -23,18 +24,15 @@ use Rattle.records.specs.contracts.band.QoSClass.{the_type}
 use Rattle.records.specs.Band.{band_code}
 use Rattle.records.specs.Lists.{every, every_below}
 use Rattle.records.specs.ThreadState.{is_state}
-use Rattle.records.proofs.Bands.{band_code-small}
 use Rattle.rules.specs.Accepted.{record_fits, ready_of, once_if_ready, stands_once, may_hold, holder_fits}
-use Rattle.rules.specs.State.{none_byte, band_order, task, queue}
-use Rattle.rules.proofs.Says.{Says, less, at_most, both, each, bands}
-use Rattle.frames.specs.Bytes.{part}
-use Rattle.frames.specs.Image.{image_length, base_length, queue_place, holders_place, record_in, record_at, queue_at, length_byte, slot_byte, state_at}
+use Rattle.rules.specs.State.{none_byte, band_order, task}
+use Rattle.rules.proofs.Says.{Says, less, at_most, both, each, below, by_place, bands}
+use Rattle.frames.specs.Image.{image_length, base_length, record_in, record_at, queue_at, length_byte, slot_byte, state_at}
 use Rattle.frames.specs.AcceptedImage.{codes_fit, slot_fits, place_fits, band_fits, core_fits, accepts_base, accepts_image}
 use Rattle.frames.specs.Private.{all_zero, LengthsFit}
-use Rattle.frames.proofs.Images.{task-read, task-past, holder-byte}
-use Rattle.frames.proofs.AcceptedImages.{entry_is, entries_are}
-use Rattle.frames.proofs.Passing.{Passing, zero_snoc, passing_failed}
-use Rattle.frames.proofs.Widths.{get_d_part}
+use Rattle.frames.proofs.Images.{task-read, task-past}
+use Rattle.std.specs.Bool.{Decides}
+use Rattle.std.proofs.lemmas.Bool.Decides.{Decides-at, same_from_decides}
 
 -- ---- a slot
 
@@ -46,6 +44,9 @@ module _ (image : List ℕ) (slot : ℕ) {bytes : List ℕ} (h : slot < 64) (at 
   pub slot_fits_lem : {r : Bool} → r ≡ codes_fit bytes && record_fits (record_in bytes) → r ≡ slot_fits image slot
   unfolding slot_fits
   slot_fits_lem e = e ∙ rw (at, task-read image slot h)
+
+  pub once_read : (count : ℕ) {r : Bool} → r ≡ once_if_ready (record_in bytes) count → r ≡ once_if_ready (task (state_at image) slot) count
+  once_read count e = e ∙ ap (λ (t : TaskControlBlock). once_if_ready t count) record_read
 
   -- whether it is Ready
   pub ready_read : {r : Bool} → r ≡ is_state (record_in bytes).state Ready → is_state (task (state_at image) slot).state Ready ≡ r
@@ -68,12 +69,6 @@ module _ (t : TaskControlBlock) {r : Bool} (is : is_state t.state Ready ≡ r) w
   pub waiting_not : (band : QoSClass) → r ≡ false → r ≡ ready_of band t
   waiting_not band e = e ∙ sym (rw (is ∙ e))
 
-  pub stands_not : (n : ℕ) → r ≡ false → not r ≡ once_if_ready t n
-  stands_not n e = rw (is, e)
-
-  pub stands_ready : (n : ℕ) → r ≡ true → eqb n 1 ≡ once_if_ready t n
-  stands_ready n e = rw (is ∙ e)
-
   pub waiting_of : (band : QoSClass) {q : QoSClass} {b : Bool} → r ≡ true → q ≡ t.qos → b ≡ sameb the_type q band → b ≡ ready_of band t
   waiting_of band {q} e own same = same ∙ same_band q band ∙ sym (rw (is ∙ e, own))
 
@@ -82,89 +77,60 @@ waiting-past image band slot h = sym (rw (task-past image slot h))
 
 -- ---- a core
 
-module _ (image : List ℕ) (core : ℕ) (whole : length image ≡ image_length) (h : core < 64) where
-  abbrev byte : ℕ
-  byte = get_or image (holders_place + core) 0
+module _ (image : List ℕ) {holder slot : ℕ} (other : holder ≡ none_byte → ⊥) (is : slot ≡ holder) where
+  holder_slot_is : holder_fits (state_at image) holder ≡ may_hold (task (state_at image) slot)
+  holder_slot_is = rw (ne_eqb holder none_byte other, is) refl
 
-  core_is : core_fits image core ≡ holder_fits (state_at image) byte
-  unfolding core_fits
-  core_is = ap (holder_fits (state_at image)) (sym (holder-byte image core whole h))
+  pub holder_past : 64 ≤ slot → ltb slot 64 ≡ holder_fits (state_at image) holder
+  holder_past past = le-ltb slot 64 past ∙ sym (holder_slot_is ∙ rw (task-past image slot past))
 
-  pub core_none : byte ≡ none_byte → true ≡ core_fits image core
-  core_none e = sym (core_is ∙ rw (eq-eqb byte none_byte e))
+  pub holder_slot : {bytes : List ℕ} {r : Bool} → slot < 64 → bytes ≡ record_at slot image → r ≡ may_hold (record_in bytes) → r ≡ holder_fits (state_at image) holder
+  holder_slot low at e = e ∙ ap may_hold (record_read image slot low at) ∙ sym holder_slot_is
 
-  module _ (other : byte ≡ none_byte → ⊥) {slot : ℕ} (is : slot ≡ byte) where
-    core_slot_is : core_fits image core ≡ may_hold (task (state_at image) slot)
-    core_slot_is = core_is ∙ rw (ne_eqb byte none_byte other, is)
-
-    pub core_past : 64 ≤ slot → ltb slot 64 ≡ core_fits image core
-    core_past past = le-ltb slot 64 past ∙ sym (core_slot_is ∙ rw (task-past image slot past))
-
-    pub core_slot : {bytes : List ℕ} {r : Bool} → slot < 64 → bytes ≡ record_at slot image → r ≡ may_hold (record_in bytes) → r ≡ core_fits image core
-    core_slot low at e = e ∙ ap may_hold (record_read image slot low at) ∙ sym core_slot_is
+-- and all of them, each asked in turn
+pub cores_tested : (image : List ℕ) {holders : List ℕ} → holders ≡ (state_at image).holders → length holders ≡ 64 → (core : ℕ) → core < 64 →
+    holder_fits (state_at image) (get_or holders core 0) ≡ core_fits image core
+unfolding core_fits
+cores_tested image {holders} is long core h =
+    ap (holder_fits (state_at image)) (get_or_default holders core 0 none_byte (omega (arith, h, long)) ∙ ap (λ (l : List ℕ). get_or l core none_byte) is)
 
 -- ---- a queue
 
--- its places
-slot_read : (image : List ℕ) (band : QoSClass) (place : ℕ) {at : ℕ} → place < 64 → at ≡ queue_place band →
-    get_or image (at + 1 + place) 0 ≡ slot_byte place (queue_at band image)
-slot_read image band place {at} h e =
-    let there : at + 1 + place ≡ queue_place band + suc place = omega (arith, e) in
-    ap (λ (n : ℕ). get_or image n 0) there ∙ sym (get_d_part (queue_place band) 65 image (suc place) 0 (omega arith))
-
 module _ (image : List ℕ) (band : QoSClass) {len : ℕ} (size : len ≡ length_byte (queue_at band image)) where
-  pub place_entry : (place : ℕ) {slot : ℕ} {r : Bool} → slot ≡ slot_byte place (queue_at band image) → place < len →
-      r ≡ ready_of band (task (state_at image) slot) → r ≡ place_fits image band place
-  unfolding place_fits
-  place_entry place is h e = e ∙ rw (lt-ltb place (length_byte (queue_at band image)) (omega (arith, h, size)), is)
-
-  place_unused : (place : ℕ) {slot : ℕ} → slot ≡ slot_byte place (queue_at band image) → len ≤ place → eqb slot 0 ≡ place_fits image band place
-  unfolding place_fits
-  place_unused place is h = rw (le-ltb place (length_byte (queue_at band image)) (omega (arith, h, size)), is)
-
   pub band_long : 64 < len → false ≡ band_fits image band
   unfolding band_fits
   band_long h = sym (rw (lt-leb (length_byte (queue_at band image)) 64 (omega (arith, h, size))))
 
-  band_places : {r : Bool} → len ≤ 64 → r ≡ every_below 64 (place_fits image band) → r ≡ band_fits image band
-  unfolding band_fits
-  band_places h e = e ∙ sym (rw (le-leb (length_byte (queue_at band image)) 64 (omega (arith, h, size))))
-
-  -- an entry that fails is enough
-  pub band_failed : {place : ℕ} {r : Bool} → len ≤ 64 → place < len → r ≡ place_fits image band place → r ≡ false → false ≡ band_fits image band
-  band_failed {place} short h is fail = band_places short (sym (passing_failed (place_fits image band) (omega arith) is fail))
-
-  -- where the entries have passed, the other places are asked to be 0
-  module _ (whole : length image ≡ image_length) {at : ℕ} (so : Passing (place_fits image band) len) (is : at ≡ queue_place band) where
-    rest_read : (n : ℕ) → len + n < 64 → get_or (drop (at + 1 + len) image) n 0 ≡ slot_byte (len + n) (queue_at band image)
-    rest_read n h = get_or-drop (at + 1 + len) image n 0 ∙ rw (add_assoc (at + 1) len n) (slot_read image band (len + n) h is)
-
-    rest_unused : (n : ℕ) → len + n ≤ 64 → every_below (len + n) (place_fits image band) ≡ all_zero (part (at + 1 + len) n image)
-    unfolding every every_below
-    rest_unused zero h = rw (add-zero len) so.so_far
-    rest_unused (suc n) h =
-        let rest = drop (at + 1 + len) image in
-        let inside : n < length rest = simp length-drop (omega (arith, whole, is, band_code-small band)) in
-        ap (λ (m : ℕ). every_below m (place_fits image band)) (add-suc len n)
-        ∙ (λ i. sym (place_unused (len + n) (rest_read n (omega arith)) (omega arith)) i && rest_unused n (omega arith) i)
-        ∙ sym (zero_snoc (take n rest) (get_or rest n 0))
-        ∙ ap all_zero (sym (take-suc rest n 0 inside))
-
-    pub band_rest : {n : ℕ} {r : Bool} → n ≡ 64 - len → r ≡ all_zero (part (at + 1 + len) n image) → r ≡ band_fits image band
-    band_rest size_is e =
-        let all : len + (64 - len) ≡ 64 = omega (arith, so.inside) in
-        band_places so.inside
-        (e
-        ∙ ap (λ (m : ℕ). all_zero (part (at + 1 + len) m image)) size_is
-        ∙ sym (rest_unused (64 - len) (omega (arith, all)))
-        ∙ ap (λ (m : ℕ). every_below m (place_fits image band)) all)
-
-  -- its entries
-  pub queue_long : length image ≡ image_length → len ≤ 64 → length (queue (state_at image) band) ≡ len
-  queue_long whole h = entries_are image (omega (arith, whole)) band (omega (arith, h, size)) ∙ sym size
-
-  pub queue_entry : (place : ℕ) {slot : ℕ} → place < len → slot ≡ slot_byte place (queue_at band image) → get_or (queue (state_at image) band) place 0 ≡ slot
-  queue_entry place h e = entry_is image band place (omega (arith, h, size)) ∙ sym e
+  -- its entries wait, and the places behind them are 0
+  pub band_tested : {places : List ℕ} {entries rest : Bool} → len ≤ 64 → length places ≡ 64 → places ≡ drop 1 (queue_at band image) →
+      Decides entries ((k : ℕ) → k < length (take len places) → ready_of band (task (state_at image) (get_or (take len places) k 0)) ≡ true) →
+      rest ≡ all_zero (drop len places) → entries && rest ≡ band_fits image band
+  unfolding band_fits place_fits
+  band_tested {places} {entries} {rest} short long behind entries-are rest-are =
+      let q = queue_at band image in
+      let own : (k : ℕ) → get_or places k 0 ≡ slot_byte k q =
+      λ k. ap (λ (l : List ℕ). get_or l k 0) behind ∙ get_or-drop 1 q k 0 ∙ ap (λ (n : ℕ). get_or q n 0) (one-add k) in
+      let front : (k : ℕ) → k < len → get_or (take len places) k 0 ≡ slot_byte k q = λ k low. get_or-take len places k 0 low ∙ own k in
+      let back : (k i : ℕ) → len + i ≡ k → get_or (drop len places) i 0 ≡ slot_byte k q = λ k i is. get_or-drop len places i 0 ∙ rw is (own k) in
+      let fits : ℕ → Type 0 =
+      λ k. (k < length_byte q → ready_of band (task (state_at image) (slot_byte k q)) ≡ true) × (length_byte q ≤ k → eqb (slot_byte k q) 0 ≡ true) in
+      let zeros = Decides-at rest _ rest-are (each (λ b. Iff.rfl) 0 (drop len places)) in
+      same_from_decides _ _
+      (Iff.trans (both entries-are zeros) (
+        λ (ready, unused). (
+          omega (arith, short, size),
+          λ k h. (
+            λ low. rw (front k (omega (arith, low, size))) at (ready k (omega (arith, low, size, short, long, length-take len places))),
+            λ past. rw (back k (k - len) (omega (arith, past, size))) at (unused (k - len) (omega (arith, past, size, h, long, length-drop len places))),
+          ),
+        ),
+        λ (_, each-is). (
+          λ k h. rw (front k (omega (arith, h, length-take len places)))
+              ((each-is k (omega (arith, h, short, length-take len places))).0 (omega (arith, h, size, length-take len places))),
+          λ i h. rw (back (len + i) i refl) ((each-is (len + i) (omega (arith, h, long, length-drop len places))).1 (omega (arith, size))),
+        ),
+      ))
+      (both at_most (below {P = fits} (λ k. by_place Iff.rfl Iff.rfl)))
 
 -- ---- the whole image
 
@@ -181,10 +147,6 @@ module _ (image : List ℕ) where
   band_says : (band : QoSClass) → Says (band_fits image band) ((length_byte (queue_at band image) ≤ 64) × (every_below 64 (place_fits image band) ≡ true))
   unfolding band_fits
   band_says band = both at_most Iff.rfl
-
-  pub bands_tested : {r : Bool} → r ≡ band_fits image UserInteractive && band_fits image RealTimeIO && band_fits image Background → r ≡ queues
-  unfolding every
-  bands_tested e = e ∙ rw (and-true, and_assoc)
 
   pub lengths_fit : {r : Bool} → r ≡ queues → r ≡ true → LengthsFit image
   lengths_fit e h band = ((bands band_says).0 (sym e ∙ h) band).0

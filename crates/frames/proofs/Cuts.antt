@@ -1,18 +1,15 @@
 -- The first line of a text (`line_of`): how long it is, and that a search for its end finds it. Assumes nothing.
 use mathlib.Core.Bool.{Bool, true, false, cond}
 use mathlib.Core.List.{List, [], ◌∷◌}
-use mathlib.Core.Logic.{inl, inr}
 use mathlib.Core.Path.{◌≡◌, refl, ap, sym, ◌∙◌}
 use Prim.Native.Nat.{ℕ, suc, ◌+◌, ◌-◌, ◌≤◌}
 use native.Mathlib.Omega.{arith}
 use borrow.Author.Tests.{ltb-false}
-use denote.Ref.{Bor}
 use lib.Dec.{eqb, ltb}
-use lib.ListN.{length, take, drop, length-drop, drop_of_length-le}
+use lib.ListN.{length, take, drop, length-drop}
 use lib.Seq.{take_all}
 use Rattle.std.specs.Prelude.{Option, None, Some, unwrap_or}
 use Rattle.std.specs.List.{position, position_or_len}
-use Rattle.std.specs.Slice.{IsGetRangeResult}
 use Rattle.frames.specs.Lines.{newline, line_of}
 
 -- a test's two ways, where the statement doesn't name the test
@@ -56,12 +53,3 @@ module _ (text : List ℕ) where
   line_cut found is n_is =
       ap (λ (k : ℕ). take k text) (n_is ∙ ap (λ (o : Option ℕ). unwrap_or o (length text)) is)
       ∙ cut_at (ltb (position_or_len is_newline text) (length text)) refl
-
--- the text from a place on, and nothing past its end
-pub rest_is : (text : List ℕ) (at : ℕ) (got : Option (Bor (List ℕ))) (none : Bor (List ℕ)) {rest : Bor (List ℕ)} →
-    IsGetRangeResult text at (length text) got → none.now ≡ [] → rest ≡ unwrap_or got none → rest.now ≡ drop at text
-rest_is text at None none g empty is =
-    let past : length text ≤ at = elim g.0 [ inl e ↦ omega arith | inr e ↦ absurd (omega arith) ] in
-    ap (λ (r : Bor (List ℕ)). r.now) is ∙ empty ∙ sym (drop_of_length-le text past)
-rest_is text at (Some part) none g empty is =
-    ap (λ (r : Bor (List ℕ)). r.now) is ∙ g.0.2 ∙ take_all (length text - at) (drop at text) (omega (arith, length-drop at text))

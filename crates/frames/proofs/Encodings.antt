@@ -3,10 +3,9 @@
 -- Assumes nothing.
 use mathlib.Core.Path.{◌≡◌, refl, sym, ap, ◌∙◌}
 use mathlib.Core.Bool.{Bool, true, false}
-use mathlib.Core.List.{List, [], ◌∷◌, ◌++◌}
+use mathlib.Core.List.{List, [], ◌∷◌}
 use Prim.Native.Nat.{ℕ, ◌+◌}
-use native.Mathlib.Omega.{arith}
-use lib.ListN.{length, drop}
+use lib.ListN.{length}
 use lib.Seq.{sets}
 use Rattle.std.specs.Int.{from_bool}
 use Rattle.std.specs.Prelude.{Option, Some}
@@ -17,12 +16,12 @@ use Rattle.rules.specs.declared.answer.ContextSwitchPlan.{ContextSwitchPlan}
 use Rattle.rules.specs.declared.answer.ContextSwitchTarget.{ContextSwitchTarget}
 use Rattle.rules.specs.declared.answer.Value.{Value}
 use Rattle.rules.specs.declared.answer.Value.TheVariants as value
-use Rattle.rules.specs.Paper.{flag_number, status_number, pick_numbers, slot_number, target_numbers, value_numbers, record_numbers}
-use Rattle.frames.specs.Answer.{record_widths, record_bytes, value_widths, answer_bytes}
-use Rattle.frames.specs.Private.{record_part, value_bytes}
-use Rattle.frames.specs.Bytes.{Puts, part, bytes_of, written, total}
+use Rattle.rules.specs.Paper.{flag_number, status_number, pick_numbers, slot_number, target_numbers, value_numbers}
+use Rattle.frames.specs.Answer.{record_bytes, value_widths, answer_bytes}
+use Rattle.frames.specs.Private.{value_bytes}
+use Rattle.frames.specs.Bytes.{Puts, bytes_of, written, total}
 use Rattle.frames.proofs.Runs.{behind, run_on}
-use Rattle.frames.proofs.Sizes.{length-written, written_append, length-value_bytes, length-pick, answer_bytes_are, length-answer_bytes}
+use Rattle.frames.proofs.Sizes.{length-value_bytes, length-pick, answer_bytes_are, length-answer_bytes}
 
 -- ---- a flag's number
 
@@ -58,20 +57,6 @@ switch_put p {o = o} e is =
     value_put (value.Plan (Some p)) (is ∙ ap (λ t. sets o 3 (written (1 ∷ 1 ∷ 1 ∷ 8 ∷ []) (1 ∷ slot_number p.prev_task_idx ∷ target_numbers t))) (sym e))
 
 -- ---- a record
-
-pub record_put : (t : TaskControlBlock) (o : List ℕ) {o₁ o₂ o₃ : List ℕ} (at : ℕ) → o₁ ≡ sets o at (record_part 0 3 t) → o₂ ≡ sets o₁ (at + 6) (record_part 3 4 t)
-    → o₃ ≡ sets o₂ (at + 38) (record_part 7 3 t) → o₃ ≡ sets o at (record_bytes t)
-unfolding record_bytes
-record_put t o {o₁} at e₁ e₂ e₃ =
-    let numbers = record_numbers t in
-    let n₁ = length-written (part 0 3 record_widths) (part 0 3 numbers) refl in
-    let n₂ = length-written (part 3 4 record_widths) (part 3 4 numbers) refl in
-    behind o at (at + 6) (record_part 0 3 t) _ e₁ (ap (λ (n : ℕ). at + n) (sym n₁))
-    (behind o₁ (at + 6) (at + 38) (record_part 3 4 t) (record_part 7 3 t) e₂ (omega (arith, n₂)) e₃)
-    ∙ ap (sets o at)
-    (ap (λ (bytes : List ℕ). record_part 0 3 t ++ bytes)
-    (sym (written_append (part 3 4 record_widths) (part 3 4 numbers) (part 7 3 record_widths) (part 7 3 numbers) refl))
-    ∙ sym (written_append (part 0 3 record_widths) (part 0 3 numbers) (drop 3 record_widths) (drop 3 numbers) refl))
 
 -- "01 and the record"
 pub task-put : (t : TaskControlBlock) (o : List ℕ) {o₁ o₂ : List ℕ} → o₁ ≡ sets o 3 (bytes_of 1 1) → o₂ ≡ sets o₁ 4 (record_bytes t)

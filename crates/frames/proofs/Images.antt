@@ -10,7 +10,6 @@ use native.Mathlib.Omega.{arith}
 use lib.Dec.{eqb}
 use lib.ListN.{length, get_or, take, drop, replicate, length-append, length-drop, take-append-drop, get_or-eq_default}
 use lib.Seq.{take_all, take_at, drop_at, take-add, take-append_seam, drop-drop, length-take-le, get_or-drop, ext_get_or}
-use Rattle.std.proofs.lemmas.List.{get_or_default}
 use Rattle.records.specs.declared.band.QoSClass.{QoSClass}
 use Rattle.records.specs.declared.band.QoSClass.TheVariants.{UserInteractive, RealTimeIO, Background}
 use Rattle.records.specs.declared.state.ThreadState.{ThreadState}
@@ -25,8 +24,7 @@ use Rattle.queue.specs.Entries.{places}
 use Rattle.queue.proofs.Entries.{length-places}
 use Rattle.rules.specs.Accepted.{Accepted}
 use Rattle.rules.specs.Paper.{record_numbers, flag_number}
-use Rattle.rules.specs.State.{State, Queues, band_order, none_byte, task, of_band, queue, holder}
-use Rattle.rules.proofs.Invariant.{no_holder}
+use Rattle.rules.specs.State.{State, Queues, band_order, task, of_band, queue}
 use Rattle.rules.proofs.Says.{equal, below}
 use Rattle.frames.specs.AcceptedImage.{AcceptedBase, AcceptedImage, band_byte, state_byte, in_use_byte}
 use Rattle.frames.specs.Answer.{record_widths, record_bytes}
@@ -38,7 +36,7 @@ use Rattle.frames.specs.Image.{length_byte, slot_byte, queue_in, queue_bytes, qu
 use Rattle.frames.proofs.Elements.{each_at}
 use Rattle.frames.proofs.Numbers.{length-bytes_of, big_endian-bytes_of}
 use Rattle.frames.proofs.Sizes.{length-record_bytes}
-use Rattle.frames.proofs.Widths.{length_part, get_d_part, bytes-part, part-within, part_of, parts_at, flatten_parts, length_flatten}
+use Rattle.frames.proofs.Widths.{length_part, bytes-part, part-within, part_of, parts_at, flatten_parts, length_flatten}
 use Rattle.frames.proofs.Widths.{bytes_of-number_at, numbers_at-written, written-numbers_at}
 
 -- ---- codes
@@ -163,17 +161,6 @@ unfolding state_at
 queue-read image UserInteractive = ap queue_in (queue-there image UserInteractive)
 queue-read image RealTimeIO = ap queue_in (queue-there image RealTimeIO)
 queue-read image Background = ap queue_in (queue-there image Background)
-
--- a core's holder is its byte
-pub holder-byte : (image : List ℕ) (core : ℕ) → length image ≡ image_length → core < 64 → get_or image (holders_place + core) 0 ≡ holder (state_at image) core
-unfolding state_at
-holder-byte image core whole h =
-    get_or_default image (holders_place + core) 0 none_byte (omega (arith, whole)) ∙ sym (get_d_part holders_place 64 image core none_byte h)
-
--- and a core of 64 and above has none
-pub holder-past : (image : List ℕ) (core : ℕ) → length image ≡ image_length → 64 ≤ core → holder (state_at image) core ≡ none_byte
-unfolding state_at
-holder-past image core whole h = no_holder (state_at image) (length_part holders_place 64 image (omega (arith, whole))) core h
 
 -- ---- a queue
 

@@ -19,7 +19,7 @@
 -- How the functions are shown to meet their contracts: Runs is about numbers stored one behind the other, Encodings puts an answer together, Decodings
 -- is which frames are read as a call, Cuts the first line of a text, Tellings what one line is told, ByLine a block taken line by line, LinePuts an answer stored as
 -- a line, Holding what is held of a line, Progress the loop over the lines of a block. Writings puts an image together. Passing is tests one after the other, the loop
--- over the slots or the cores, and a sum of bytes; RecordBytes what a record's bytes say, Counting how often each slot stands in the queues, and Accepting has each way out of
+-- over the slots, what was asked of a whole list, and a sum of bytes; RecordBytes what a record's bytes say, Counting how often each slot stands in the queues, and Accepting has each way out of
 -- the test of an image. Readings puts a scheduler together from the parts of an image, and Hosting has each way out of a new image, of a call on an
 -- image and of the host entry.
 pub mod Stores

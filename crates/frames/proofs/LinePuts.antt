@@ -1,19 +1,19 @@
 -- An answer stored as a line of text in a buffer: its digits and the newline, all of it where it has room, else nothing. Assumes nothing.
 use mathlib.Core.Bool.{true, false}
 use mathlib.Core.List.{List, [], ◌∷◌}
-use mathlib.Core.Path.{◌≡◌, refl, sym, ap, ◌∙◌}
+use mathlib.Core.Path.{◌≡◌, refl, sym, ap, subst, ◌∙◌}
 use Prim.Native.Nat.{ℕ, ◌+◌, ◌-◌, ◌*◌, ◌≤◌, ◌<◌}
 use native.Mathlib.Omega.{arith}
 use borrow.Author.Tests.{leb-true, leb-false, le-leb, lt-leb}
 use lib.Dec.{leb}
-use lib.ListN.{length, take, set}
+use lib.ListN.{length, take, set, length-take}
 use lib.Seq.{sets}
-use Rattle.std.specs.Prelude.{None, Some}
+use Rattle.std.specs.Prelude.{Option, None, Some}
 use Rattle.rules.specs.declared.answer.Answer.{Answer}
 use Rattle.frames.specs.Answer.{answer_bytes}
 use Rattle.frames.specs.Bytes.{Puts}
 use Rattle.frames.specs.Hex.{to_hex}
-use Rattle.frames.specs.Lines.{newline, no_frame, line_text}
+use Rattle.frames.specs.Lines.{newline, line_text}
 use Rattle.frames.specs.Private.{PutsLine}
 use Rattle.frames.proofs.Cuts.{test}
 use Rattle.frames.proofs.Digits.{length-to_hex}
@@ -21,27 +21,19 @@ use Rattle.frames.proofs.Sizes.{answer-fits}
 use Rattle.frames.proofs.Stores.{sets_append, take_sets}
 use Rattle.frames.proofs.Streams.{length-line_text}
 
--- its digits, then the newline
-pub line-stored : (out : List ℕ) (at : ℕ) (bytes : List ℕ) {mid : List ℕ} → mid ≡ sets out at (to_hex bytes) →
-    set mid (at + 2 * length bytes) newline ≡ sets out at (line_text bytes)
-unfolding line_text
-line-stored out at bytes is =
-    (λ i. set (is i) (at + sym (length-to_hex bytes) i) newline) ∙ sym (sets_append out at (to_hex bytes) (newline ∷ []))
-
--- the refusal's line, byte for byte
-pub no_frame-stored : (out : List ℕ) (at : ℕ) → sets out at (48 ∷ 57 ∷ 102 ∷ 102 ∷ 102 ∷ 102 ∷ 10 ∷ []) ≡ sets out at (line_text no_frame)
-unfolding line_text to_hex
-no_frame-stored out at = refl
-
 -- where it has room, and where it has none
 module _ (bytes : List ℕ) (at : ℕ) (before : List ℕ) where
-  pub line_put : {after : List ℕ} {n : ℕ} → n ≡ 2 * length bytes + 1 → n ≤ length before - at → after ≡ sets before at (line_text bytes) →
-      PutsLine bytes at before after (Some n)
-  line_put size fits stored =
-      let all : leb (length (line_text bytes)) (length before - at) ≡ true = le-leb _ _ (omega (arith, length-line_text bytes)) in
-      record { buffer_is = rw all stored; size_is = rw all (ap Some (size ∙ sym (length-line_text bytes))) }
+  -- the digits, then the newline
+  pub line_put : {mid : List ℕ} → 2 * length bytes < length before - at → mid ≡ sets before at (to_hex bytes) →
+      PutsLine bytes at before (set mid (at + 2 * length bytes) newline) (Some (2 * length bytes + 1))
+  unfolding line_text
+  line_put fits digits =
+      let size : length (line_text bytes) ≡ 2 * length bytes + 1 = length-line_text bytes in
+      let all : leb (length (line_text bytes)) (length before - at) ≡ true = le-leb _ _ (omega (arith, size)) in
+      let stored = (λ i. set (digits i) (at + sym (length-to_hex bytes) i) newline) ∙ sym (sets_append before at (to_hex bytes) (newline ∷ [])) in
+      record { buffer_is = rw all stored; size_is = rw all (ap Some (sym size)) }
 
-  pub line_not_put : length before - at < 2 * length bytes + 1 → PutsLine bytes at before before None
+  pub line_not_put : length before - at ≤ 2 * length bytes → PutsLine bytes at before before None
   line_not_put small =
       let none : leb (length (line_text bytes)) (length before - at) ≡ false = lt-leb _ _ (omega (arith, length-line_text bytes)) in
       record { buffer_is = rw none refl; size_is = rw none refl }
@@ -67,17 +59,17 @@ module _ (bytes : List ℕ) (at : ℕ) (before : List ℕ) where
       absurd (cc))
       (λ e. (leb-false _ _ e, rw e at puts.buffer_is))
 
--- the buffer of an answer, once it has room for every answer
-module _ (a : Answer) {before after : List ℕ} {n : ℕ} (puts : Puts (answer_bytes a) 0 before after n) where
-  pub put_small : n ≤ 51
-  put_small = omega (arith, puts.length_is, answer-fits a)
+-- an answer's bytes at the front of a buffer, once that has room for every answer
+module _ (a : Answer) {before after : List ℕ} {n : ℕ} (puts : Puts (answer_bytes a) 0 before after n) (room : length before ≡ 51) where
+  put_front : take n after ≡ answer_bytes a
+  put_front = (λ i. take (puts.length_is i) (puts.buffer_is i)) ∙ take_sets before (answer_bytes a) (omega (arith, answer-fits a))
 
-  module _ (room : length before ≡ 51) where
-    put_front : take n after ≡ answer_bytes a
-    put_front = (λ i. take (puts.length_is i) (puts.buffer_is i)) ∙ take_sets before (answer_bytes a) (omega (arith, answer-fits a))
+  pub put_length : n ≡ length (take n after)
+  put_length = puts.length_is ∙ sym (ap length put_front)
 
-    pub put_length : n ≡ length (take n after)
-    put_length = puts.length_is ∙ sym (ap length put_front)
+  pub put_inside : n ≤ length after
+  put_inside = omega (arith, put_length, length-take n after)
 
-    pub put_stored : (out : List ℕ) (at : ℕ) {out' : List ℕ} → out' ≡ sets out at (line_text (take n after)) → out' ≡ sets out at (line_text (answer_bytes a))
-    put_stored out at e = e ∙ ap (λ (l : List ℕ). sets out at (line_text l)) put_front
+  -- and as a line
+  pub put_as : {at : ℕ} {out out' : List ℕ} {r : Option ℕ} → PutsLine (take n after) at out out' r → PutsLine (answer_bytes a) at out out' r
+  put_as {at} {out} {out'} {r} put = subst (λ (l : List ℕ). PutsLine l at out out' r) put_front put

@@ -6,7 +6,7 @@ use Prim.Native.Nat.{ℕ, zero, suc, ◌+◌, ◌-◌, ◌*◌, ◌/◌, ◌%◌
 use native.Mathlib.Omega.{arith}
 use native.Mathlib.Nat.{add-zero, zero-add, add-suc, suc-add, pow-suc, pow-succ', pow-le-pow_right, div-div-eq-div-mul}
 use native.Mathlib.Numerals.{add-one}
-use lib.ListN.{length, get_or, take, drop, length-append, length-take, length-drop}
+use lib.ListN.{length, get_or, take, drop, length-append, length-take}
 use lib.Seq.{take-suc, take_all}
 use Rattle.std.specs.Int.{w64, byte_at, bytes_high_first, to_be_bytes}
 use Rattle.records.specs.Lists.{Each}
@@ -91,12 +91,6 @@ number_in {at} {width} {bytes} {l} so e =
       is = so.is ∙ ap big_endian (take_all (length l) l (omega arith) ∙ e);
       small = omega (arith, so.small, pow-le-pow_right {n = 256} (omega arith) short);
     }
-
--- what there is of a part that runs over the end
-pub part_short : (at n width : ℕ) (bytes : List ℕ) → length bytes ≤ at + n → n ≤ width → part at n bytes ≡ part at width bytes
-part_short at n width bytes h le =
-    let all : length (drop at bytes) ≤ n = simp length-drop (omega arith) in
-    take_all n (drop at bytes) all ∙ sym (take_all width (drop at bytes) (omega arith))
 
 -- ---- storing: the last bytes of the 8 that std lists, the highest first
 

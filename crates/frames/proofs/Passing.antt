@@ -1,15 +1,21 @@
--- Tests one after the other, loops that test every number below 64, and a sum of bytes that are to be 0. Assumes nothing.
+-- Tests one after the other, a loop that tests every number below 64, a test of every element of a list, and a sum of bytes that are to be 0.
+-- Assumes nothing.
 use mathlib.Core.Path.{◌≡◌, refl, sym, ap, ◌∙◌}
-use mathlib.Core.Bool.{Bool, true, false, ◌&&◌, and-false, and-true, and_assoc, and_comm}
-use mathlib.Core.List.{List, [], ◌∷◌, ◌++◌}
+use mathlib.Core.Bool.{Bool, true, false, ◌&&◌, and-false, and-true, and_assoc}
+use mathlib.Core.List.{List, [], ◌∷◌}
 use Prim.Native.Nat.{ℕ, zero, suc, ◌+◌, ◌≤◌, ◌<◌}
 use native.Mathlib.Nat.{zero-add}
 use native.Mathlib.Numerals.{add-one}
 use native.Mathlib.Omega.{arith}
 use borrow.Author.Tests.{ltb-true, ltb-false, ne_eqb}
 use lib.Dec.{ltb, eqb}
+use lib.ListN.{length, get_or}
 use Rattle.std.specs.List.{fold, sum}
+use Rattle.std.specs.Bool.{Decides}
+use Rattle.std.proofs.lemmas.Bool.Decides.{same_from_decides}
+use mathlib.Core.Logic.Iff
 use Rattle.records.proofs.Cases.{split}
+use Rattle.rules.proofs.Says.{below}
 use Rattle.records.specs.Lists.{every, every_below}
 use Rattle.frames.specs.Private.{all_zero}
 
@@ -48,16 +54,18 @@ module _ {test : ℕ → Bool} {k : ℕ} (so : Passing test k) where
   unfolding every_below
   passing_on h is passes = rw (add-one k) (record { inside = omega arith; so_far = rw (sym is ∙ passes, so.so_far) })
 
--- ---- bytes that are to be 0
+-- every number below n passes, where every element of a list did
+pub every_as : {test : ℕ → Bool} {n : ℕ} {r : Bool} (seen : ℕ → Bool) (l : List ℕ) → length l ≡ n →
+    ((k : ℕ) → k < n → seen (get_or l k 0) ≡ test k) →
+    Decides r ((k : ℕ) → k < length l → seen (get_or l k 0) ≡ true) → r ≡ every_below n test
+every_as {test} {n = n} {r} seen l long same seen-is =
+    let all = below {test = test} {P = λ k. test k ≡ true} (λ k. Iff.rfl) {n = n} in
+    same_from_decides r _ seen-is (
+      λ e k h. let inside : k < n = omega (arith, h, long) in same k inside ∙ all.0 e k inside,
+      λ each-is. all.1 (λ k h. sym (same k h) ∙ each-is k (omega (arith, h, long))),
+    )
 
-pub zero_snoc : (bytes : List ℕ) (b : ℕ) → all_zero (bytes ++ (b ∷ [])) ≡ eqb b 0 && all_zero bytes
-unfolding every
-zero_snoc [] b = refl
-zero_snoc (a ∷ bytes) b =
-    ap (λ (t : Bool). eqb a 0 && t) (zero_snoc bytes b)
-    ∙ sym (and_assoc (eqb a 0) (eqb b 0) (all_zero bytes))
-    ∙ ap (λ (t : Bool). t && all_zero bytes) (and_comm (eqb a 0) (eqb b 0))
-    ∙ and_assoc (eqb b 0) (eqb a 0) (all_zero bytes)
+-- ---- bytes that are to be 0
 
 -- a sum is 0 where both its parts are
 sum_zero : (a b : ℕ) → eqb (a + b) 0 ≡ eqb a 0 && eqb b 0

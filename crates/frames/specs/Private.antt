@@ -6,18 +6,18 @@ use Rattle.records.specs.Lists.{every, count}
 use Rattle.rules.specs.declared.answer.Answer.{Answer}
 use Rattle.rules.specs.declared.call.Call.{Call}
 use Rattle.rules.specs.declared.answer.Value.{Value}
-use Rattle.rules.specs.Paper.{record_numbers, value_numbers}
+use Rattle.rules.specs.Paper.{value_numbers}
 use Rattle.rules.specs.State.{State}
 use Rattle.rules.specs.Step.{step}
 use Rattle.frames.specs.declared.refusal.HostError.{HostError}
 use Rattle.frames.specs.Image.{image_of, state_at, queue_at, length_byte, queues_place, holders_place, micros_place, record_place, queues_bytes}
 use Rattle.frames.specs.declared.stream.Fed.{Fed}
 use Rattle.frames.specs.declared.stream.Stream.{Stream}
-use Rattle.frames.specs.Answer.{record_widths, record_bytes, value_widths}
+use Rattle.frames.specs.Answer.{record_bytes, value_widths}
 use Rattle.std.proofs.lemmas.List.Edits.{sets}
 use Rattle.std.specs.Borrow.{Bor}
 use Rattle.records.specs.Task.{empty_record}
-use Rattle.frames.specs.Bytes.{part, number_at, bytes_of, written}
+use Rattle.frames.specs.Bytes.{number_at, bytes_of, written}
 use Rattle.frames.specs.Hex.{digit_value}
 use Rattle.frames.specs.Lines.{line_text}
 use Rattle.frames.specs.ReadWrite.{image_status}
@@ -36,10 +36,6 @@ pub record IsDigitValue (d r : ℕ) : Type 0 where
   pub small : r < 16
 
 -- ---- parts of an answer
-
--- some of a record's numbers, from one on
-abbrev pub record_part : ℕ → ℕ → TaskControlBlock → List ℕ
-record_part from n t = written (part from n record_widths) (part from n (record_numbers t))
 
 unfoldable pub value_bytes : Value → List ℕ
 value_bytes v = written (value_widths v) (value_numbers v)

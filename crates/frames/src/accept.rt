@@ -1,16 +1,16 @@
 // Acceptance: whether bytes are an image that document 01 accepts, in time linear in their number.
 ghost use Rattle.std.specs.Prelude.{◌≡◌, ◌&&◌, ◌≤◌, ◌<◌, length};
 ghost use Rattle.records.specs.Lists.{every, every_below};
-ghost use Rattle.rules.specs.Accepted.{ready_of, once_if_ready, stands_once};
+ghost use Rattle.rules.specs.Accepted.{ready_of, once_if_ready, stands_once, holder_fits};
 ghost use Rattle.rules.specs.State.{band_order, task, queue};
-ghost use Rattle.frames.specs.Image.{queue_at, length_byte, state_at};
+ghost use Rattle.frames.specs.Image.{queue_at, length_byte, record_in, state_at};
 ghost use Rattle.frames.specs.AcceptedImage.{accepts_image, slot_fits, band_fits, core_fits};
 ghost use Rattle.frames.specs.Private.{all_zero, LengthsFit, AtMost, Counted};
 
-use crate::fields::{band_in, is_ready, may_hold, record_fits};
-use crate::layout::{HOLDERS_AT, IMAGE_BYTES, Image};
-use crate::parts::{length_byte, queue_at, record_at, slot_byte};
-use records::{MAX_CPUS, MAX_TASKS, QoSClass};
+use crate::fields::{band_in, is_in, may_hold, record_fits};
+use crate::layout::{IMAGE_BYTES, Image};
+use crate::parts::{holders_at, queue_at, record_at};
+use records::{MAX_TASKS, QoSClass, ThreadState};
 use scheduler::NO_HOLDER;
 
 // Whether the bytes are an image that is accepted: of any bytes, of any number. `accepts_image` is shown to say what document
@@ -34,26 +34,22 @@ pub(crate) fn accepts(image: &Image) -> bool
 fn bands_fit(image: &Image) -> bool
     ensures { result ≡ every (band_fits image.now) band_order }
 {
-    band_fits(image, QoSClass::UserInteractive)
-        && band_fits(image, QoSClass::RealTimeIO)
-        && band_fits(image, QoSClass::Background)
+    QoSClass::ALL.iter().all(|band| band_fits(image, *band))
 }
 
 // Whether a queue has at most 64 entries, each is a Ready slot of the band, and the places behind them are unused and 0.
 fn band_fits(image: &Image, band: QoSClass) -> bool
     ensures { result ≡ band_fits image.now band }
 {
-    let len = length_byte(image, band);
+    let (len, places) = queue_at(image, band);
     if len > MAX_TASKS {
         return false;
     }
-    for place in 0..len {
-        if !is_waiting(image, band, slot_byte(image, band, place)) {
-            return false;
-        }
-    }
-    let at = queue_at(band) + 1;
-    all_zero(&image[at + len..at + MAX_TASKS])
+    let (entries, unused) = places.split_at(len);
+    entries
+        .iter()
+        .all(|slot| is_waiting(image, band, usize::from(*slot)))
+        && all_zero(unused)
 }
 
 // Whether a number is a Ready slot of the band.
@@ -64,7 +60,7 @@ fn is_waiting(image: &Image, band: QoSClass, slot: usize) -> bool
         return false;
     }
     let record = record_at(image, slot);
-    is_ready(record) && band_in(record) == band
+    is_in(record, ThreadState::Ready) && band_in(record) == band
 }
 
 // Whether every byte is 0: by their sum, with no way out before the end, so that many bytes are added at a time.
@@ -79,7 +75,8 @@ fn all_zero(bytes: &[u8]) -> bool
 // ---- the slots
 
 // Whether every slot's record fits, and every Ready slot stands in the queues once. Each slot's entries are counted first, in one
-// pass over the queues; then both are asked of each slot in turn, so that the records are gone over once and not twice.
+// pass over the queues; then both are asked of each slot in turn, so that the records are gone over once and not twice. The three
+// passes are written out: each may count only because of what those before it counted, and a loop would have to say that of all.
 fn slots_fit(image: &Image) -> bool
     requires { LengthsFit image.now }
     ensures { result ≡ (every_below 64 (slot_fits image.now) && every_below 64 (stands_once (state_at image.now))) }
@@ -89,7 +86,8 @@ fn slots_fit(image: &Image) -> bool
     let second = counted(image, QoSClass::RealTimeIO, first);
     let counts = counted(image, QoSClass::Background, second);
     for slot in 0..MAX_TASKS {
-        if !slot_fits(image, slot) || !stands_once(image, slot, counts[slot]) {
+        let record = record_at(image, slot);
+        if !record_fits(record) || !stands_once(record, counts[slot]) {
             return false;
         }
     }
@@ -102,8 +100,9 @@ fn counted(image: &Image, band: QoSClass, mut counts: [u8; MAX_TASKS]) -> [u8; M
     requires at_most { AtMost 128 counts }
     ensures { Counted (queue (state_at image.now) band) counts result }
 {
-    for place in 0..length_byte(image, band) {
-        let slot = slot_byte(image, band, place);
+    let (len, places) = queue_at(image, band);
+    for slot in &places[..len] {
+        let slot = usize::from(*slot);
         if slot < MAX_TASKS {
             counts[slot] += 1;
         }
@@ -111,20 +110,11 @@ fn counted(image: &Image, band: QoSClass, mut counts: [u8; MAX_TASKS]) -> [u8; M
     counts
 }
 
-// Whether a slot's record fits.
-fn slot_fits(image: &Image, slot: usize) -> bool
-    requires { slot < 64 }
-    ensures { result ≡ slot_fits image.now slot }
+// Whether a record that stands in the queues so often is not Ready or stands there once.
+fn stands_once(bytes: &[u8], count: u8) -> bool
+    ensures { result ≡ once_if_ready (record_in bytes.now) count }
 {
-    record_fits(record_at(image, slot))
-}
-
-// Whether a slot that stands in the queues so often is not Ready or stands there once.
-fn stands_once(image: &Image, slot: usize, count: u8) -> bool
-    requires { slot < 64 }
-    ensures { result ≡ once_if_ready (task (state_at image.now) slot) count }
-{
-    !is_ready(record_at(image, slot)) || count == 1
+    !is_in(bytes, ThreadState::Ready) || count == 1
 }
 
 // ---- the holders
@@ -133,20 +123,15 @@ fn stands_once(image: &Image, slot: usize, count: u8) -> bool
 fn cores_fit(image: &Image) -> bool
     ensures { result ≡ every_below 64 (core_fits image.now) }
 {
-    for core in 0..MAX_CPUS {
-        if !core_fits(image, core) {
-            return false;
-        }
-    }
-    true
+    holders_at(image)
+        .iter()
+        .all(|holder| holder_fits(image, *holder))
 }
 
-// Whether a core's holder is none, or a slot in use whose budget is its slice.
-fn core_fits(image: &Image, core: usize) -> bool
-    requires { core < 64 }
-    ensures { result ≡ core_fits image.now core }
+// Whether a holder is none, or a slot in use whose budget is its slice.
+fn holder_fits(image: &Image, holder: u8) -> bool
+    ensures { result ≡ holder_fits (state_at image.now) holder }
 {
-    let holder = image[HOLDERS_AT + core];
     if holder == NO_HOLDER {
         return true;
     }

@@ -2,12 +2,15 @@
 ghost use Rattle.std.specs.Prelude.{◌≡◌, [], ◌∷◌, ◌+◌, ◌^◌, ◌<◌, Some};
 ghost use Rattle.std.proofs.lemmas.List.Edits.{sets};
 ghost use Rattle.frames.specs.Answer.{answer_bytes, record_bytes};
-ghost use Rattle.frames.specs.Private.{value_bytes, record_part};
+ghost use Rattle.frames.specs.Private.{value_bytes};
 ghost use Rattle.frames.specs.Bytes.{Puts, written};
 ghost use Rattle.rules.specs.Paper.{status_number, pick_numbers, slot_number, core_number};
 
-use crate::bytes::put_number;
-use crate::layout::{BUDGET_AT, CONTEXT_AT, RECORD_BYTES};
+use crate::bytes::{put_bytes, put_number};
+use crate::layout::{
+    BAND_AT, BUDGET_AT, CONSUMED_AT, CONTEXT_AT, CR3_AT, IN_USE_AT, MASK_AT, RECORD_BYTES, RSP0_AT,
+    STATE_AT,
+};
 use records::{SchedError, Slot, TaskControlBlock};
 use scheduler::{Answer, ContextSwitchPlan, ContextSwitchTarget, Pick, Value};
 
@@ -23,7 +26,7 @@ const SWITCH_BYTES: usize = 11;
 // The longest answer: status, pick, 01 and a record.
 pub const ANSWER_MAX: usize = VALUE_AT + TASK_BYTES;
 
-// What stands for no slot, no band and no core in the bytes that a host is given.
+// What stands for no slot, no band and no core in the bytes that a host is given: a byte, since C has no Option.
 const NONE: u64 = 255;
 
 // The answer's bytes at the front of a buffer, and how many they are; bytes behind them stay. A byte that has no place in
@@ -116,7 +119,7 @@ fn put_switch(switch: ContextSwitchPlan, out: &mut [u8]) -> usize
     SWITCH_BYTES
 }
 
-// 00, or 01 and the record.
+// 00, or 01 and the record. `put_plan` is alike; one function over both would take what puts the value as a closure with a clause.
 fn put_task(task: Option<TaskControlBlock>, out: &mut [u8]) -> usize
     ensures { Puts (value_bytes (Value.Task task)) 3 out.old out.new result }
 {
@@ -124,51 +127,33 @@ fn put_task(task: Option<TaskControlBlock>, out: &mut [u8]) -> usize
         None => put_byte(0, out),
         Some(record) => {
             put_number(out, VALUE_AT, 1, 1);
-            put_record(record, out, VALUE_AT + 1);
+            put_bytes(&record_bytes(record), out, VALUE_AT + 1);
             TASK_BYTES
         }
     }
 }
 
-// A record's 47 bytes from `at` on.
-pub(crate) fn put_record(task: TaskControlBlock, out: &mut [u8], at: usize)
-    requires { at + 47 < 2 ^ 64 }
-    ensures { out.new ≡ sets out.old at (record_bytes task) }
+// A record's 47 bytes.
+pub(crate) fn record_bytes(task: TaskControlBlock) -> [u8; RECORD_BYTES]
+    ensures { result ≡ record_bytes task }
 {
-    put_identity(task, out, at);
-    put_context(task, out, at + CONTEXT_AT);
-    put_times(task, out, at + BUDGET_AT);
-}
-
-// tid, band, state
-fn put_identity(task: TaskControlBlock, out: &mut [u8], at: usize)
-    requires { at + 6 < 2 ^ 64 }
-    ensures { out.new ≡ sets out.old at (record_part 0 3 task) }
-{
-    put_number(out, at, 4, u64::from(task.tid.0));
-    put_number(out, at + 4, 1, u64::from(task.qos.code()));
-    put_number(out, at + 5, 1, u64::from(task.state.code()));
-}
-
-// context, cr3, rsp0, mask
-fn put_context(task: TaskControlBlock, out: &mut [u8], at: usize)
-    requires { at + 32 < 2 ^ 64 }
-    ensures { out.new ≡ sets out.old at (record_part 3 4 task) }
-{
-    put_number(out, at, 8, task.context_handle);
-    put_number(out, at + 8, 8, task.cr3);
-    put_number(out, at + 16, 8, task.rsp0);
-    put_number(out, at + 24, 8, task.cpu_affinity);
-}
-
-// budget, consumed, in use
-fn put_times(task: TaskControlBlock, out: &mut [u8], at: usize)
-    requires { at + 9 < 2 ^ 64 }
-    ensures { out.new ≡ sets out.old at (record_part 7 3 task) }
-{
-    put_number(out, at, 4, u64::from(task.slice_budget_us));
-    put_number(out, at + 4, 4, u64::from(task.consumed_slice_us));
-    put_number(out, at + 8, 1, u64::from(task.in_use));
+    let mut bytes = [0; RECORD_BYTES];
+    put_number(&mut bytes, 0, 4, u64::from(task.tid.0));
+    put_number(&mut bytes, BAND_AT, 1, u64::from(task.qos.code()));
+    put_number(&mut bytes, STATE_AT, 1, u64::from(task.state.code()));
+    put_number(&mut bytes, CONTEXT_AT, 8, task.context_handle);
+    put_number(&mut bytes, CR3_AT, 8, task.cr3);
+    put_number(&mut bytes, RSP0_AT, 8, task.rsp0);
+    put_number(&mut bytes, MASK_AT, 8, task.cpu_affinity);
+    put_number(&mut bytes, BUDGET_AT, 4, u64::from(task.slice_budget_us));
+    put_number(
+        &mut bytes,
+        CONSUMED_AT,
+        4,
+        u64::from(task.consumed_slice_us),
+    );
+    put_number(&mut bytes, IN_USE_AT, 1, u64::from(task.in_use));
+    bytes
 }
 
 // The slot's number; 255 for none.

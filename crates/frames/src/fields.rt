@@ -1,7 +1,6 @@
 // A record's 47 bytes: what its fields say, and what acceptance asks of a record alone. A byte that is no code reads as the
 // empty record's.
 ghost use Rattle.std.specs.Prelude.{◌≡◌, ◌&&◌, ◌||◌, eqb};
-ghost use Rattle.records.specs.declared.state.ThreadState.TheVariants.{Ready, Terminated};
 ghost use Rattle.records.specs.Band.{slice};
 ghost use Rattle.records.specs.ThreadState.{is_state};
 ghost use Rattle.rules.specs.Accepted.{record_fits, may_hold};
@@ -39,7 +38,7 @@ pub(crate) fn record_fits(bytes: &[u8]) -> bool
 {
     let slice = slice_in(bytes);
     codes_fit(bytes)
-        && is_in_use(bytes) != is_terminated(bytes)
+        && is_in_use(bytes) != is_in(bytes, ThreadState::Terminated)
         && number(bytes, MASK_AT, 8) != 0
         && budget_fits(number(bytes, BUDGET_AT, 4), slice)
         && number(bytes, CONSUMED_AT, 4) < slice
@@ -61,18 +60,11 @@ fn is_in_use(bytes: &[u8]) -> bool
     number(bytes, IN_USE_AT, 1) == 1
 }
 
-// Whether the state is Ready.
-pub(crate) fn is_ready(bytes: &[u8]) -> bool
-    ensures { result ≡ is_state (record_in bytes.now).state Ready }
+// Whether a record's state byte is this state's code; one that is no code is Terminated's.
+pub(crate) fn is_in(bytes: &[u8], state: ThreadState) -> bool
+    ensures { result ≡ is_state (record_in bytes.now).state state }
 {
-    state_in(bytes) == ThreadState::Ready
-}
-
-// Whether the state is Terminated.
-fn is_terminated(bytes: &[u8]) -> bool
-    ensures { result ≡ is_state (record_in bytes.now).state Terminated }
-{
-    state_in(bytes) == ThreadState::Terminated
+    state_in(bytes) == state
 }
 
 // A byte that is no code reads as Terminated.

@@ -11,7 +11,8 @@ pub(crate) fn is_hex(line: &[u8]) -> bool
     line.len() % 2 == 0 && line.iter().all(|d| is_digit(*d))
 }
 
-// The bytes that a line's digits stand for, stored at the front of a buffer that has room for them.
+// The bytes that a line's digits stand for, stored at the front of a buffer that has room for them. By index, since a chunk of two
+// digits would be looked into by index too.
 pub(crate) fn from_hex(line: &[u8], bytes: &mut [u8])
     requires { length line.now ≤ 2 * length bytes.old }
     ensures { bytes.new ≡ sets bytes.old 0 (from_hex line.now) }
@@ -38,7 +39,7 @@ fn is_digit(d: u8) -> bool
     matches!(d, b'0'..=b'9' | b'a'..=b'f')
 }
 
-// What a digit stands for, and 0 for a byte that is none.
+// What a digit stands for, and 0 for a byte that is none. `char::to_digit` would take A to F too.
 fn digit_value(d: u8) -> u8
     ensures { IsDigitValue d result }
 {
@@ -49,6 +50,7 @@ fn digit_value(d: u8) -> u8
     }
 }
 
+// A number's digit. `char::from_digit` gives an Option of a character, of which the byte would have to be taken.
 fn digit(n: u8) -> u8
     requires { n < 16 }
     ensures { result ≡ digit_of n }

@@ -12,7 +12,7 @@ ghost use Rattle.frames.specs.Private.{put_slot, with_rest};
 ghost use Rattle.frames.specs.ReadWrite.{WritesImage};
 
 use crate::bytes::{put_bytes, put_number};
-use crate::encode::put_record;
+use crate::encode::record_bytes;
 use crate::layout::{HOLDERS_AT, IMAGE_BYTES, MICROS_AT, QUEUE_BYTES, QUEUES_AT, RECORD_BYTES};
 use crate::refusal::HostError;
 use queue::BandQueue;
@@ -65,7 +65,7 @@ fn put_slot(tasks: &[TaskControlBlock; MAX_TASKS], slot: Option<Slot>, image: &m
     if let Some(Slot(slot)) = slot
         && slot < MAX_TASKS
     {
-        put_record(tasks[slot], image, RECORD_BYTES * slot);
+        put_bytes(&record_bytes(tasks[slot]), image, RECORD_BYTES * slot);
     }
 }
 
@@ -73,8 +73,8 @@ fn put_slot(tasks: &[TaskControlBlock; MAX_TASKS], slot: Option<Slot>, image: &m
 fn put_records(tasks: &[TaskControlBlock; MAX_TASKS], out: &mut [u8])
     ensures { out.new ≡ sets out.old 0 (records_bytes tasks.now) }
 {
-    for slot in 0..MAX_TASKS {
-        put_record(tasks[slot], out, RECORD_BYTES * slot);
+    for (slot, task) in tasks.iter().enumerate() {
+        put_bytes(&record_bytes(*task), out, RECORD_BYTES * slot);
     }
 }
 

@@ -1,11 +1,10 @@
 // Lines of text: the next line, the call that it stands for, and an answer as a line.
-ghost use Rattle.std.specs.Prelude.{◌≡◌, ◌+◌, ◌-◌, ◌*◌, ◌≤◌, min, length, drop};
-ghost use Rattle.std.proofs.lemmas.List.Edits.{sets};
+ghost use Rattle.std.specs.Prelude.{◌≡◌, ◌+◌, ◌≤◌, min, length, drop};
 ghost use Rattle.frames.specs.Answer.{answer_bytes};
-ghost use Rattle.frames.specs.Lines.{line_of, line_call, no_frame, line_text};
+ghost use Rattle.frames.specs.Lines.{line_of, line_call};
 ghost use Rattle.frames.specs.Private.{PutsLine};
 
-use crate::bytes::put_bytes;
+use crate::bytes::behind;
 use crate::decode::read_frame;
 use crate::encode::{ANSWER_MAX, VALUE_AT, write_answer};
 use crate::hex::{from_hex, is_hex, put_hex};
@@ -22,15 +21,15 @@ pub(crate) const LINE_MAX: usize = 2 * FRAME_MAX;
 // The longest answer as a line of text, with its newline.
 pub const ANSWER_LINE_MAX: usize = 2 * ANSWER_MAX + 1;
 
-// The answer to a line that is no frame, as a line of text, with its newline.
-const NO_FRAME_LINE: usize = 2 * VALUE_AT + 1;
+// The answer to a line that is no frame: refusal 9, and no pick.
+pub(crate) const NO_FRAME: [u8; VALUE_AT] = [9, 255, 255];
 
 // The line that begins at `at`, as that part of the input: up to the next newline, which is not in it, or to the end. At
 // the end and past it there is no line, and the part is empty.
 pub fn next_line(input: &[u8], at: usize) -> &[u8]
     ensures { result.now ≡ line_of (drop at input.now) }
 {
-    let rest = input.get(at..).unwrap_or(&[]);
+    let rest = behind(input, at);
     let end = rest.iter().position(|byte| *byte == NEWLINE);
     &rest[..end.unwrap_or(rest.len())]
 }
@@ -54,34 +53,21 @@ pub(crate) fn put_answer(answer: Answer, out: &mut [u8], at: usize) -> Option<us
 {
     let mut bytes = [0u8; ANSWER_MAX];
     let n = write_answer(answer, &mut bytes);
-    let size = 2 * n + 1;
-    if out.len() - at < size {
-        return None;
-    }
-    put_line(&bytes[..n], out, at);
-    Some(size)
+    put_line(&bytes[..n], out, at)
 }
 
-// The same of the answer to a line that is no frame.
-pub(crate) fn put_no_frame(out: &mut [u8], at: usize) -> Option<usize>
+// The same of an answer's bytes.
+pub(crate) fn put_line(answer: &[u8], out: &mut [u8], at: usize) -> Option<usize>
     requires { at ≤ length out.old }
-    ensures { PutsLine no_frame at out.old out.new result }
+    ensures { PutsLine answer.now at out.old out.new result }
 {
-    if out.len() - at < NO_FRAME_LINE {
+    let digits = 2 * answer.len();
+    if out.len() - at <= digits {
         return None;
     }
-    put_bytes(b"09ffff\n", out, at);
-    Some(NO_FRAME_LINE)
-}
-
-// An answer as a line of text, from `at` on.
-fn put_line(answer: &[u8], out: &mut [u8], at: usize)
-    requires { at + 2 * length answer.now + 1 ≤ length out.old }
-    ensures { out.new ≡ sets out.old at (line_text answer.now) }
-{
     put_hex(answer, out, at);
-    let end = at + 2 * answer.len();
-    out[end] = NEWLINE;
+    out[at + digits] = NEWLINE;
+    Some(digits + 1)
 }
 
 // The place behind a line's end: past its newline, if it has one.

@@ -1,9 +1,9 @@
-// The parts of an image: a slot's record, and where a band's queue stands and what its bytes are.
-ghost use Rattle.std.specs.Prelude.{◌≡◌, ◌+◌, ◌≤◌, ◌<◌};
-ghost use Rattle.frames.specs.Image.{queue_length, queue_place, holders_place, record_at, queue_at, length_byte, slot_byte};
+// The parts of an image: a slot's record, a band's queue, and the holders.
+ghost use Rattle.std.specs.Prelude.{◌≡◌, ◌<◌, drop};
+ghost use Rattle.frames.specs.Image.{record_at, queue_at, length_byte, state_at};
 
-use crate::layout::{Image, QUEUE_BYTES, QUEUES_AT, RECORD_BYTES};
-use records::QoSClass;
+use crate::layout::{HOLDERS_AT, Image, MICROS_AT, QUEUE_BYTES, QUEUES_AT, RECORD_BYTES};
+use records::{MAX_CPUS, MAX_TASKS, QoSClass};
 
 // A slot's record, as that part of the image.
 pub(crate) fn record_at(image: &Image, slot: usize) -> &[u8]
@@ -14,24 +14,19 @@ pub(crate) fn record_at(image: &Image, slot: usize) -> &[u8]
     &image[at..at + RECORD_BYTES]
 }
 
-// How many entries a band's queue has, by the image.
-pub(crate) fn length_byte(image: &Image, band: QoSClass) -> usize
-    ensures { result ≡ length_byte (queue_at band image.now) }
+// A band's queue, as the image has it: how many entries its first byte says, and its 64 places.
+pub(crate) fn queue_at(image: &Image, band: QoSClass) -> (usize, &[u8; MAX_TASKS])
+    ensures len { result.0 ≡ length_byte (queue_at band image.now) }
+    ensures places { result.1.now ≡ drop 1 (queue_at band image.now) }
 {
-    usize::from(image[queue_at(band)])
+    let at = QUEUES_AT + QUEUE_BYTES * usize::from(band.code());
+    let places = image[at + 1..at + QUEUE_BYTES].as_array().unwrap();
+    (usize::from(image[at]), places)
 }
 
-// What stands at one of the 64 places of a band's queue.
-pub(crate) fn slot_byte(image: &Image, band: QoSClass, place: usize) -> usize
-    requires { place < 64 }
-    ensures { result ≡ slot_byte place (queue_at band image.now) }
+// Every core's holder.
+pub(crate) fn holders_at(image: &Image) -> &[u8; MAX_CPUS]
+    ensures { result.now ≡ (state_at image.now).holders }
 {
-    usize::from(image[queue_at(band) + 1 + place])
-}
-
-// Where a band's queue begins; all its bytes stand before the holders.
-pub(crate) fn queue_at(band: QoSClass) -> usize
-    ensures { (result ≡ queue_place band) × (result + queue_length ≤ holders_place) }
-{
-    QUEUES_AT + QUEUE_BYTES * usize::from(band.code())
+    image[HOLDERS_AT..MICROS_AT].as_array().unwrap()
 }

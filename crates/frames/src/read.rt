@@ -10,14 +10,15 @@ ghost use Rattle.frames.specs.Private.{FindsImage};
 ghost use Rattle.frames.specs.Image.{state_at};
 
 use crate::accept::accepts;
-use crate::bytes::{number, put_all};
+use crate::bytes::number;
 use crate::fields::record_in;
-use crate::layout::{HOLDERS_AT, IMAGE_BYTES, Image, MICROS_AT};
-use crate::parts::{length_byte, queue_at, record_at};
+use crate::layout::{IMAGE_BYTES, Image, MICROS_AT};
+use crate::parts::{holders_at, queue_at, record_at};
 use crate::refusal::HostError;
 use queue::BandQueue;
-use records::{BAND_COUNT, MAX_CPUS, MAX_TASKS, QoSClass, TaskControlBlock};
+use records::{BAND_COUNT, QoSClass};
 use scheduler::QoSScheduler;
+use std::array::from_fn;
 
 // The scheduler that an image stands for, from any bytes. Refused as `check_image` does it.
 pub fn read_image(image: &[u8]) -> Result<QoSScheduler, HostError>
@@ -54,14 +55,11 @@ pub(crate) fn state_at(image: &Image) -> QoSScheduler
     requires { AcceptedImage image.now }
     ensures { abs result ≡ state_at image.now }
 {
-    let mut tasks = [TaskControlBlock::EMPTY; MAX_TASKS];
-    for slot in 0..MAX_TASKS {
-        tasks[slot] = record_in(record_at(image, slot));
-    }
+    let tasks = from_fn(|slot| record_in(record_at(image, slot)));
     QoSScheduler {
         tasks,
         queues: queues_at(image),
-        current: holders_at(image),
+        current: *holders_at(image),
         system_ticks_us: number(image, MICROS_AT, 8),
     }
 }
@@ -70,28 +68,13 @@ pub(crate) fn state_at(image: &Image) -> QoSScheduler
 fn queues_at(image: &Image) -> [BandQueue; BAND_COUNT]
     ensures { queues_of result ≡ (state_at image.now).queues }
 {
-    [
-        queue_in(image, QoSClass::UserInteractive),
-        queue_in(image, QoSClass::RealTimeIO),
-        queue_in(image, QoSClass::Background),
-    ]
+    QoSClass::ALL.map(|band| queue_in(image, band))
 }
 
 // A band's queue: as many of its 64 places as its length byte says.
 fn queue_in(image: &Image, band: QoSClass) -> BandQueue
     ensures { entries result ≡ queue (state_at image.now) band }
 {
-    let at = queue_at(band) + 1;
-    let mut places = [0u8; MAX_TASKS];
-    put_all(&image[at..at + MAX_TASKS], &mut places, 0);
-    BandQueue::from_places(places, length_byte(image, band))
-}
-
-// Every core's holder.
-fn holders_at(image: &Image) -> [u8; MAX_CPUS]
-    ensures { result ≡ (state_at image.now).holders }
-{
-    let mut holders = [0u8; MAX_CPUS];
-    put_all(&image[HOLDERS_AT..MICROS_AT], &mut holders, 0);
-    holders
+    let (len, places) = queue_at(image, band);
+    BandQueue::from_places(*places, len)
 }

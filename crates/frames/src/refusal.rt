@@ -2,7 +2,7 @@
 ghost use Rattle.std.specs.Prelude.{◌≡◌};
 ghost use Rattle.frames.specs.Host.{host_number};
 
-// Why no call was made.
+// Why no call was made. There is no Display: a host gets the number, and nothing here prints.
 #[derive(Clone, Copy, PartialEq, Eq)]
 pub enum HostError {
     // 7: the image does not have IMAGE_BYTES bytes, or the answer buffer has under ANSWER_MAX.

@@ -4,7 +4,7 @@ ghost use Rattle.frames.specs.Stream.{Begins, Feeds};
 ghost use Rattle.frames.specs.Private.{Stops};
 
 use crate::held::Held;
-use crate::lines::{next_line, past_newline, put_answer, put_no_frame};
+use crate::lines::{NO_FRAME, next_line, past_newline, put_answer, put_line};
 use scheduler::QoSScheduler;
 
 // A scheduler, and what is there of a line that is not answered yet.
@@ -41,7 +41,7 @@ impl Stream {
     // Goes on with the text: the answers to its lines, each closed by a newline, at the front of a buffer, in order and as many as
     // have room; bytes behind them stay. A line that no newline closes yet is held for the next block; where the block is the
     // last it is answered. ANSWER_LINE_MAX bytes have room for any one line's answer. The calls are made here, since in a function
-    // of its own the state would be copied twice more for each.
+    // of its own the state would be copied twice more for each. `used` and `written` are counted by hand, since they are answered.
     pub fn feed(self, block: &[u8], last: bool, out: &mut [u8]) -> Fed
         ensures { Feeds last self block.now out.old out.new result }
     {
@@ -56,7 +56,7 @@ impl Stream {
                 return Stream { state, held }.stopped(line, end, written, false);
             }
             let Some(call) = held.call_with(line) else {
-                let Some(size) = put_no_frame(out, written) else {
+                let Some(size) = put_line(&NO_FRAME, out, written) else {
                     return Stream { state, held }.stopped(line, end, written, true);
                 };
                 held = Held::new();

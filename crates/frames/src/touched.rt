@@ -5,8 +5,9 @@ ghost use Rattle.rules.specs.State.{holder};
 ghost use Rattle.rules.specs.Touched.{named_slot, answered_slot};
 ghost use Rattle.frames.specs.Image.{state_at};
 
-use crate::layout::{HOLDERS_AT, Image};
-use records::{MAX_CPUS, Slot};
+use crate::layout::Image;
+use crate::parts::holders_at;
+use records::Slot;
 use scheduler::{Answer, Call, NO_HOLDER, Value};
 
 // The slot that a call names, or that its core holds.
@@ -31,10 +32,7 @@ pub(crate) fn named_slot(call: Call, image: &Image) -> Option<Slot>
 fn holder_in(image: &Image, core: usize) -> Option<Slot>
     ensures { slot_number result ≡ holder (state_at image.now) core }
 {
-    if core >= MAX_CPUS {
-        return None;
-    }
-    match image[HOLDERS_AT + core] {
+    match *holders_at(image).get(core)? {
         NO_HOLDER => None,
         holder => Some(Slot(usize::from(holder))),
     }

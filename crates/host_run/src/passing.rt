@@ -1,33 +1,56 @@
 // How images, frames and answer buffers are passed to the host's entries.
 ghost use Rattle.std.specs.Prelude.{◌≤◌};
 
-use crate::parts::{IMAGE, Image};
-use crate::show::{MARK, show_step};
-use frames::{new_image, step, write_image};
-use scheduler::QoSScheduler;
+use crate::show::show_step;
+use frames::{new_image, step};
+use samples::{Image, MARK, Part, Parts};
 use std::io;
 
-// An answer buffer that is longer than it has to be.
-pub(crate) const ROOM: usize = 60;
+// A frame, by what is said of it.
+pub(crate) type Frame = (&'static str, &'static [u8]);
 
-// A frame in the longer buffer, shown; the image after it.
-pub(crate) fn called(rt: &impl Print, what: &str, image: Image, frame: &[u8]) -> io::Result<Image> {
-    called_in(rt, ROOM, what, image, frame)
+// A frame, and the parts of the image that are shown after it.
+pub(crate) type Step = (&'static str, &'static [u8], &'static [Part]);
+
+// An answer buffer that is longer than it has to be.
+pub(crate) const ROOM: u8 = 60;
+
+// Frames, each on the image that the one before left and in a buffer of each of these lengths; the image after the last.
+pub(crate) fn steps(
+    rt: &impl Print,
+    mut image: Image,
+    rooms: &[u8],
+    steps: &[Step],
+) -> io::Result<Image> {
+    for (what, frame, parts) in steps {
+        let before = image;
+        for room in rooms {
+            image = called_in(rt, *room, what, before, frame)?;
+        }
+        print!(rt; "{}", Parts(&image, parts))?;
+    }
+    Ok(image)
+}
+
+// Frames, each on the image as it is.
+pub(crate) fn called_each(rt: &impl Print, image: Image, frames: &[Frame]) -> io::Result<()> {
+    for (what, frame) in frames {
+        called_in(rt, ROOM, what, image, frame)?;
+    }
+    Ok(())
 }
 
 // A frame in a buffer of `room` bytes, the front of a longer one, shown with all of that; the image after it.
 pub(crate) fn called_in(
     rt: &impl Print,
-    room: usize,
+    room: u8,
     what: &str,
     image: Image,
     frame: &[u8],
-) -> io::Result<Image>
-    requires { room ≤ 60 }
-{
+) -> io::Result<Image> {
     let mut after = image;
-    let mut buffer = [MARK; ROOM];
-    let returned = step(&mut after, frame, &mut buffer[..room]);
+    let mut buffer = [MARK; 255];
+    let returned = step(&mut after, frame, &mut buffer[..usize::from(room)]);
     show_step(rt, what, room, returned, &buffer, after == image)?;
     Ok(after)
 }
@@ -36,18 +59,18 @@ pub(crate) fn called_in(
 pub(crate) fn called_on(rt: &impl Print, n: usize, what: &str, frame: &[u8]) -> io::Result<()>
     requires { n ≤ 3276 }
 {
-    let mut bytes = [MARK; IMAGE + 1];
+    let mut bytes = [MARK; 3276];
     // not refused, since the length is an image's
-    let _ = new_image(&mut bytes[..IMAGE]);
+    let _ = new_image(&mut bytes[..3275]);
     let before = bytes;
-    let mut buffer = [MARK; ROOM];
+    let mut buffer = [MARK; 60];
     let returned = step(&mut bytes[..n], frame, &mut buffer);
     show_step(rt, what, ROOM, returned, &buffer, bytes == before)
 }
 
 // A frame on an image; nobody looks at what comes of it.
 pub(crate) fn step_on(image: &mut Image, frame: &[u8]) {
-    let mut buffer = [MARK; ROOM];
+    let mut buffer = [MARK; 60];
     let _ = step(image, frame, &mut buffer);
 }
 
@@ -58,12 +81,4 @@ pub(crate) fn create_frame(tid: u8, band: u8) -> [u8; 30] {
     frame[4] = tid;
     frame[5] = band;
     frame
-}
-
-// A scheduler's image.
-pub(crate) fn written(state: QoSScheduler) -> Image {
-    let mut image = [MARK; IMAGE];
-    // not refused, since the length is an image's
-    let _ = write_image(state, &mut image);
-    image
 }

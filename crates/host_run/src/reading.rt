@@ -1,8 +1,8 @@
 // Images without frames: what the check and the reader make of bytes, and a call on an image.
-use crate::parts::{HOLDERS, IMAGE, Image, with};
-use crate::passing::{step_on, written};
+use crate::passing::step_on;
 use crate::show::{Status, show_called};
 use frames::{call_on_image, check_image, read_image};
+use samples::{Image, Part, image_of};
 use scheduler::{Call, QoSScheduler};
 use std::io;
 use text::yes_or_no;
@@ -13,9 +13,9 @@ pub(crate) fn images_read(rt: &impl Print, image: Image, new: Image) -> io::Resu
     let again = "written again, the same image";
     read(rt, "the busy image", &image, again, &image)?;
     let as_new = "written, a new scheduler's image";
-    let refused = with(image, HOLDERS, 64);
+    let refused = Part::Holders.changed(image, 0, 64);
     read(rt, "an image with holder 64", &refused, as_new, &new)?;
-    let short = [0u8; IMAGE - 1];
+    let short = [0u8; 3274];
     read(rt, "an image of 3274 bytes", &short, as_new, &new)
 }
 
@@ -25,7 +25,7 @@ pub(crate) fn calls_on_images(rt: &impl Print, image: Image) -> io::Result<()> {
     step_on(&mut after, b"\x07\0\0\0\0\0\0\0\x05\0\0\0\x01");
     let what = "tick of 1 on core 5 as a call";
     ticked(rt, what, image, "the same image by its frame", after)?;
-    let refused = with(image, HOLDERS, 64);
+    let refused = Part::Holders.changed(image, 0, 64);
     let what = "the same on an image with holder 64";
     ticked(rt, what, refused, "the image as it was", refused)
 }
@@ -45,7 +45,7 @@ fn read(
         Status(read.map(|_| ()))
     )?;
     let state = read.unwrap_or(QoSScheduler::new());
-    println!(rt; "{claim}: {}", yes_or_no(written(state) == *expected))
+    println!(rt; "{claim}: {}", yes_or_no(image_of(state) == *expected))
 }
 
 // What a tick of 1 on core 5 came to, and whether the image is then `expected`.

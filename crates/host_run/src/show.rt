@@ -1,34 +1,28 @@
 // What the program prints: what the host entry made of a frame, what was made of an image without one, or yes or no, each on a
 // line of its own.
-ghost use Rattle.std.specs.Prelude.{◌≤◌, length, IfOk};
-
-use frames::{ANSWER_MAX, HostError, returned, write_answer};
+use frames::{HostError, returned};
+use samples::{Written, are_marks};
 use scheduler::Answer;
 use std::{fmt, io};
-use text::{Hex, front, kept_or_changed};
-
-// What a buffer is filled with before it is passed.
-pub(crate) const MARK: u8 = 170;
+use text::{Hex, behind, front, kept_or_changed};
 
 // A line with what was done and the length of the buffer passed, the number that the host gets, the answer, and whether the
 // image and the bytes past the answer are as they were.
 pub(crate) fn show_step(
     rt: &impl Print,
     what: &str,
-    room: usize,
+    room: u8,
     answered: Result<usize, HostError>,
     buffer: &[u8],
     image_kept: bool,
-) -> io::Result<()>
-    requires { IfOk answered (λ n. n ≤ length buffer.now) }
-{
+) -> io::Result<()> {
     print!(rt; "{what}, buffer {room}: returns {}, ", returned(answered))?;
-    let answer = &buffer[..answered.unwrap_or(0)];
     match answered {
-        Ok(_) => print!(rt; "answer {}", Hex(answer))?,
+        Ok(n) => print!(rt; "answer {}", Hex(front(buffer, n)))?,
         Err(_) => print!(rt; "no answer")?,
     }
-    show_kept(rt, image_kept, are_marks(&buffer[answer.len()..]))
+    let rest = behind(buffer, answered.unwrap_or(0));
+    show_kept(rt, image_kept, are_marks(rest))
 }
 
 // A line with the number that the host gets for a new image, and whether the image and the byte behind it are as they were.
@@ -48,11 +42,6 @@ fn show_kept(rt: &impl Print, image_kept: bool, rest_kept: bool) -> io::Result<(
     let image = kept_or_changed(image_kept);
     let rest = kept_or_changed(rest_kept);
     println!(rt; ", image {image}, rest {rest}")
-}
-
-// Whether every byte is the mark.
-fn are_marks(bytes: &[u8]) -> bool {
-    bytes.iter().all(|byte| *byte == MARK)
 }
 
 // What was said of an image.
@@ -75,11 +64,7 @@ pub(crate) fn show_called(
     came_to: Result<Answer, HostError>,
 ) -> io::Result<()> {
     match came_to {
-        Ok(answer) => {
-            let mut buffer = [MARK; ANSWER_MAX];
-            let n = write_answer(answer, &mut buffer);
-            println!(rt; "{what}: answer {}", Hex(front(&buffer, n)))
-        }
+        Ok(answer) => println!(rt; "{what}: answer {}", Written(answer)),
         Err(error) => println!(rt; "{what}: {}", Status(Err(error))),
     }
 }

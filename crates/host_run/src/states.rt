@@ -1,18 +1,12 @@
 // Schedulers that `apply` makes, call by call: what the images after the same calls as frames are held against.
 use records::{QoSClass, Slot, Tid};
-use samples::{after, busy};
+use samples::{after, busy, create};
 use scheduler::{Call, QoSScheduler};
 
 // After document 01's five frames.
 pub(crate) fn after_examples() -> QoSScheduler {
     let calls = [
-        Call::Create {
-            tid: Tid(7),
-            qos: QoSClass::UserInteractive,
-            context_handle: 1,
-            cr3: 0,
-            rsp0: 0,
-        },
+        create(Tid(7), QoSClass::UserInteractive),
         Call::Enqueue(Slot(0)),
         tick(0, 100),
         tick(64, 100),

@@ -1,10 +1,10 @@
 // A long list of calls: in each round one by value, then a block and a tick on a lent state, from which the next round goes
 // on. 64 tasks in three bands; slots 0 to 65 and cores 0, 21, 42, 63 and 84 are named, so that there are some too large.
-use crate::cases::create;
+use crate::begun::crowd;
 use crate::outcome::Asked;
-use records::{MAX_TASKS, QoSClass, Slot, Tid};
+use records::{BAND_COUNT, QoSClass, Slot, Tid};
 use samples::after;
-use scheduler::{Call, QoSScheduler};
+use scheduler::Call;
 use std::io;
 use text::yes_or_no;
 
@@ -13,26 +13,24 @@ const ROUNDS: u64 = 5_000;
 // The rounds show something only if more than so many of them block a task, and more than so many pick one.
 const MANY: u64 = 500;
 
+// All cores, or cores 0 and 42, or cores 21 and 63.
+const MASKS: [u64; 3] = [0, 4_398_046_511_105, 9_223_372_036_856_872_960];
+
 pub(crate) fn rounds(rt: &impl Print) -> io::Result<()> {
     let mut state = crowd();
-    let mut seed = 1;
+    let mut number = Number(1);
     let mut blocks: u64 = 0;
     let mut picks: u64 = 0;
     let mut differences: u64 = 0;
     for _round in 0..ROUNDS {
-        let before = after(state, &[call_of(seed)]);
-        seed = number_after(seed);
-        let asked = Asked {
-            slot: slot_of(seed),
-            core: core_of(seed),
-            elapsed_us: seed % 3_000,
-        };
-        let lent = asked.lent(before);
-        blocks += u64::from(lent.blocked.status.is_ok());
-        picks += u64::from(lent.ticked.pick.is_some());
-        differences += u64::from(!lent.is_same(&asked.by_value(before)));
-        state = lent.after;
-        seed = number_after(seed);
+        let before = after(state, &[number.call()]);
+        number = number.following();
+        let (lent, is_same) = number.asked().both_ways(before);
+        blocks += u64::from(lent.block.answer.status.is_ok());
+        picks += u64::from(lent.tick.answer.pick.is_some());
+        differences += u64::from(!is_same);
+        state = lent.tick.state;
+        number = number.following();
     }
     println!(rt; "Rounds: {ROUNDS}")?;
     println!(rt; "Many of them block: {}", yes_or_no(blocks > MANY))?;
@@ -40,67 +38,55 @@ pub(crate) fn rounds(rt: &impl Print) -> io::Result<()> {
     println!(rt; "Rounds that are not as by value: {differences}")
 }
 
-// 64 tasks, slot i in band i modulo 3, all waiting.
-fn crowd() -> QoSScheduler {
-    let mut state = QoSScheduler::new();
-    for slot in 0..MAX_TASKS {
-        let task = create(Tid(7), band_of(slot));
-        state = after(state, &[task, Call::Enqueue(Slot(slot))]);
+// A number of a list that looks like chance, and what a round does by it.
+#[derive(Clone, Copy)]
+struct Number(u32);
+
+impl Number {
+    // The next one, by Lehmer's rule, which goes through all below 2^31 - 1 but 0.
+    fn following(self) -> Number {
+        Number((self.0 as u64 * 48_271 % 2_147_483_647) as u32)
     }
-    state
-}
 
-fn band_of(n: usize) -> QoSClass {
-    match n % 3 {
-        0 => QoSClass::UserInteractive,
-        1 => QoSClass::RealTimeIO,
-        _ => QoSClass::Background,
+    fn slot(self) -> Slot {
+        Slot((self.0 / 8 % 66) as usize)
     }
-}
 
-// The number after this one in a list that looks like chance: Lehmer's, which goes through all below 2^31 - 1 but 0.
-fn number_after(seed: u32) -> u32 {
-    (seed as u64 * 48_271 % 2_147_483_647) as u32
-}
-
-fn slot_of(seed: u32) -> Slot {
-    Slot((seed / 8 % 66) as usize)
-}
-
-fn core_of(seed: u32) -> usize {
-    (seed / 528 % 5 * 21) as usize
-}
-
-// All cores, or cores 0 and 42, or cores 21 and 63.
-fn mask_of(seed: u32) -> u64 {
-    match seed % 3 {
-        0 => 0,
-        1 => 4_398_046_511_105,
-        _ => 9_223_372_036_856_872_960,
+    fn core(self) -> usize {
+        (self.0 / 528 % 5 * 21) as usize
     }
-}
 
-// A call that changes the state, of any kind but block and tick, which each round does anyway, and plan, which is a tick.
-fn call_of(seed: u32) -> Call {
-    let slot = slot_of(seed);
-    let core = core_of(seed);
-    match seed % 8 {
-        0 => Call::Create {
-            tid: Tid(seed),
-            qos: band_of(core),
-            context_handle: 1,
-            cr3: 2,
-            rsp0: 3,
-        },
-        1 => Call::Affinity {
-            slot,
-            mask: mask_of(seed),
-        },
-        2 => Call::Terminate(slot),
-        3 => Call::Enqueue(slot),
-        4 => Call::Schedule(core),
-        5 => Call::Yield(core),
-        6 => Call::Handoff(core),
-        _ => Call::Wake(slot),
+    // A block and a tick.
+    fn asked(self) -> Asked {
+        Asked {
+            slot: self.slot(),
+            core: self.core(),
+            elapsed_us: self.0 % 3_000,
+        }
+    }
+
+    // A call that changes the state, of any kind but block and tick, which each round does anyway, and plan, which is a tick.
+    fn call(self) -> Call {
+        let slot = self.slot();
+        let core = self.core();
+        match self.0 % 8 {
+            0 => Call::Create {
+                tid: Tid(self.0),
+                qos: QoSClass::ALL[core % BAND_COUNT],
+                context_handle: 1,
+                cr3: 2,
+                rsp0: 3,
+            },
+            1 => Call::Affinity {
+                slot,
+                mask: MASKS[(self.0 % 3) as usize],
+            },
+            2 => Call::Terminate(slot),
+            3 => Call::Enqueue(slot),
+            4 => Call::Schedule(core),
+            5 => Call::Yield(core),
+            6 => Call::Handoff(core),
+            _ => Call::Wake(slot),
+        }
     }
 }

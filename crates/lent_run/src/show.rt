@@ -1,17 +1,20 @@
-// What the program prints.
-use frames::{ANSWER_MAX, write_answer};
-use scheduler::Answer;
+// What the program prints of a call on a lent state.
+use crate::outcome::same_state;
+use samples::Written;
+use scheduler::{QoSScheduler, Reply};
 use std::fmt;
-use text::Hex;
+use text::kept_or_changed;
 
-// An answer as document 01 writes it.
+// Its answer as document 01 writes it, and whether the state is as it was before.
 #[derive(Clone, Copy)]
-pub(crate) struct Written(pub Answer);
+pub(crate) struct Told {
+    pub before: QoSScheduler,
+    pub reply: Reply,
+}
 
-impl fmt::Display for Written {
+impl fmt::Display for Told {
     fn fmt<W: fmt::Write>(&self, f: &mut fmt::Formatter<W>) -> fmt::Result {
-        let mut bytes = [0; ANSWER_MAX];
-        let n = write_answer(self.0, &mut bytes);
-        write!(f, "{}", Hex(bytes.get(..n).unwrap_or(&[])))
+        let state = kept_or_changed(same_state(self.before, self.reply.state));
+        write!(f, "{} state {state}", Written(self.reply.answer))
     }
 }

@@ -11,7 +11,7 @@ use Rattle.records.specs.declared.error.SchedError.TheVariants.{QueueFull, NoSuc
 use Rattle.records.specs.declared.ids.Slot.{Slot}
 use Rattle.queue.specs.declared.BandQueue.{BandQueue}
 use Rattle.queue.specs.Promises.{Push}
-use Rattle.queue.specs.Entries.{full, push_result, pushed}
+use Rattle.queue.specs.Entries.{full, push_result, takes, pushed}
 use Rattle.queue.specs.Stored.{window, entries}
 use Rattle.queue.proofs.Entries.{takes-slot, pushed-taken, pushed-refused}
 use Rattle.queue.proofs.Ring.{window_store}
@@ -28,11 +28,17 @@ module _ (q : BandQueue) (slot : Slot) (there : slot.0 < 64) where
   is_full : 64 ≤ q.len → full (entries q) ≡ true
   is_full stands = le-leb 64 (length (entries q)) (omega (arith, length_entries q))
 
+  pub takes_full : 64 ≤ q.len → takes slot.0 (entries q) ≡ false
+  takes_full stands = takes-slot slot.0 (entries q) there ∙ ap not (is_full stands)
+
+  pub pushed_full : 64 ≤ q.len → pushed slot.0 (entries q) ≡ entries q
+  pushed_full stands = pushed-refused slot.0 (entries q) (takes_full stands)
+
   -- 64 entries stand in it
   pub push_full : 64 ≤ q.len → Push q slot (Err QueueFull) q
   push_full stands = record {
     answer_is = rw (lt-ltb slot.0 64 there, is_full stands);
-    entries_are = sym (pushed-refused slot.0 (entries q) (takes-slot slot.0 (entries q) there ∙ ap not (is_full stands)));
+    entries_are = sym (pushed_full stands);
   }
 
   has_room : q.len < 64 → full (entries q) ≡ false

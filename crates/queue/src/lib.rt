@@ -1,8 +1,8 @@
 // One band's queue of waiting slots, in a ring of 64 places that nothing above this crate looks into.
 //
 // What a queue holds is `entries`, its slots from front to tail; every promise below speaks of that list alone. Every queue
-// is well formed: its ghost fields say so. The laws for the crates above
-// are in proofs/Entries.antt, Counts.antt and Stored.antt.
+// is well formed: its ghost fields say so. The laws for the crates above are in proofs/Entries.antt, Counts.antt and
+// Stored.antt.
 #![tactic(auto)]
 
 ghost use Rattle.std.specs.Prelude.{◌≡◌, ◌≤◌, ◌<◌, length, []};
@@ -38,8 +38,8 @@ impl BandQueue {
         }
     }
 
-    // The queue that an image's 64 places and its length stand for: the first `len` of them are its entries, from the front
-    // on. A `len` above 64 stands for all 64.
+    // The queue that an image's 64 places and its length stand for, which stand so in document 01's image: the first `len` of
+    // them are its entries, from the front on. A `len` above 64 stands for all 64.
     pub fn from_places(places: [u8; MAX_TASKS], len: usize) -> Self
         ensures { entries result ≡ take len places }
     {
@@ -68,7 +68,7 @@ impl BandQueue {
         Ok(())
     }
 
-    // The slot at the front leaves; an empty queue answers None.
+    // The slot at the front leaves, by the Rust's name for it; an empty queue answers None.
     pub fn pop(&mut self) -> Option<Slot>
         ensures { Take self.old 0 result self.new }
     {
@@ -76,7 +76,7 @@ impl BandQueue {
     }
 
     // The slot leaves wherever it stands, and the rest keep their order. The gap is closed in the ring itself: what is
-    // kept moves up behind what was kept before it.
+    // kept moves up behind what was kept before it; `kept` is counted by hand, since a Vec's `retain` would need the heap.
     pub fn remove(&mut self, slot: Slot)
         ensures { entries self.new ≡ without slot.0 (entries self.old) }
     {
@@ -121,7 +121,7 @@ impl BandQueue {
     }
 
     // What picking does: the entry at a place leaves, and those before it go to the tail in their order. Past the tail
-    // nothing leaves and nothing moves.
+    // nothing leaves and nothing moves. `head` goes round the ring with the front, as the range's own number does not.
     pub fn take_at(&mut self, place: usize) -> Option<Slot>
         ensures { Take self.old place result self.new }
     {

@@ -5,6 +5,7 @@
 use queue::BandQueue;
 use records::{MAX_TASKS, Slot};
 use std::{fmt, io};
+use text::OrNone;
 
 fn main(rt: HostRuntime) -> io::Result<()> {
     empty_queue(&rt)?;
@@ -58,34 +59,30 @@ fn push(rt: &impl Print, queue: &mut BandQueue, slot: usize) -> io::Result<()> {
         Ok(()) => "",
         Err(_) => " refused",
     };
-    println!(rt; "push {slot}{refused}:{}", Entries(queue))
+    show(rt, format_args!("push {slot}{refused}"), queue)
 }
 
 fn pop(rt: &impl Print, queue: &mut BandQueue) -> io::Result<()> {
-    let taken = queue.pop();
-    println!(rt; "pop takes{}:{}", MaybeSlot(taken), Entries(queue))
+    let taken = or_none(queue.pop());
+    show(rt, format_args!("pop takes {taken}"), queue)
 }
 
 fn take_at(rt: &impl Print, queue: &mut BandQueue, place: usize) -> io::Result<()> {
-    let taken = queue.take_at(place);
-    println!(rt;
-        "take at {place} takes{}:{}",
-        MaybeSlot(taken),
-        Entries(queue)
-    )
+    let taken = or_none(queue.take_at(place));
+    show(rt, format_args!("take at {place} takes {taken}"), queue)
 }
 
 fn remove(rt: &impl Print, queue: &mut BandQueue, slot: usize) -> io::Result<()> {
     queue.remove(Slot(slot));
-    println!(rt; "remove {slot}:{}", Entries(queue))
-}
-
-// A line with what was done and the entries.
-fn show(rt: &impl Print, done: &str, queue: &BandQueue) -> io::Result<()> {
-    println!(rt; "{done}:{}", Entries(queue))
+    show(rt, format_args!("remove {slot}"), queue)
 }
 
 // ---- what is printed
+
+// A line with what was done and the entries.
+fn show(rt: &impl Print, done: impl fmt::Display + Drop, queue: &BandQueue) -> io::Result<()> {
+    println!(rt; "{done}:{}", Entries(queue))
+}
 
 // A queue's entries from front to tail, each behind a space.
 #[derive(Clone, Copy)]
@@ -94,21 +91,13 @@ struct Entries<'a>(&'a BandQueue);
 impl fmt::Display for Entries<'_> {
     fn fmt<W: fmt::Write>(&self, f: &mut fmt::Formatter<W>) -> fmt::Result {
         for place in 0..self.0.len() {
-            write!(f, "{}", MaybeSlot(self.0.entry_at(place)))?;
+            write!(f, " {}", or_none(self.0.entry_at(place)))?;
         }
         Ok(())
     }
 }
 
-// A space, and the slot's number or a word that there is none.
-#[derive(Clone, Copy)]
-struct MaybeSlot(Option<Slot>);
-
-impl fmt::Display for MaybeSlot {
-    fn fmt<W: fmt::Write>(&self, f: &mut fmt::Formatter<W>) -> fmt::Result {
-        match self.0 {
-            Some(slot) => write!(f, " {}", slot.0),
-            None => write!(f, " none"),
-        }
-    }
+// The slot's number, or the word none.
+fn or_none(slot: Option<Slot>) -> OrNone<usize> {
+    OrNone(slot.map(|slot| slot.0))
 }

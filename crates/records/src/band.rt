@@ -3,6 +3,7 @@ ghost use Rattle.std.specs.Prelude.{◌≡◌, ok_or};
 ghost use Rattle.records.specs.Code.{unknown_code};
 ghost use Rattle.records.specs.Band.{IsBandCode, coded_band, slice};
 
+use crate::BAND_COUNT;
 use crate::code::UnknownCode;
 
 #[derive(Clone, Copy, PartialEq, Eq)]
@@ -13,7 +14,14 @@ pub enum QoSClass {
 }
 
 impl QoSClass {
-    // The band's code, 0 to 2: its byte in a record, and its queue's place.
+    // The bands in the order in which a pick goes through them.
+    pub const ALL: [QoSClass; BAND_COUNT] = [
+        QoSClass::UserInteractive,
+        QoSClass::RealTimeIO,
+        QoSClass::Background,
+    ];
+
+    // The band's code, 0 to 2: document 01's byte in a record, and its queue's place.
     pub fn code(self) -> u8
         ensures { IsBandCode self result }
     {
@@ -21,7 +29,7 @@ impl QoSClass {
     }
 }
 
-// The band that has this code; no band has 3 and above.
+// The band that has this code; no band has 3 and above. A match, as for the states, since it shows each code beside its name.
 impl TryFrom<u8> for QoSClass {
     type Error = UnknownCode;
 

@@ -19,7 +19,7 @@ pub enum SchedError {
 }
 
 impl SchedError {
-    // The refusal's number in an answer.
+    // The refusal's number in document 01's answers.
     pub fn code(self) -> u8
         ensures { result ≡ error_code self }
     {

@@ -14,7 +14,7 @@ pub fn mask_permits(mask: u64, core: usize) -> bool
     (mask >> (core % MAX_CPUS)) % 2 == 1
 }
 
-// The mask as a record keeps it: 0 would permit no core and stands for all of them.
+// The mask as a record keeps it: 0, document 01's number for all cores, would permit none.
 pub fn stored_mask(mask: u64) -> u64
     ensures { result ≡ stored_mask mask }
 {

@@ -1,7 +1,7 @@
 // What a task is doing, with the codes of the record's byte.
 ghost use Rattle.std.specs.Prelude.{◌≡◌, ok_or};
 ghost use Rattle.records.specs.Code.{unknown_code};
-ghost use Rattle.records.specs.ThreadState.{state_code, coded_state, is_state};
+ghost use Rattle.records.specs.ThreadState.{state_code, coded_state};
 
 use crate::code::UnknownCode;
 
@@ -18,17 +18,11 @@ pub enum ThreadState {
 }
 
 impl ThreadState {
-    // The state's code, 0 to 3: its byte in a record.
+    // The state's code, 0 to 3: document 01's byte in a record.
     pub fn code(self) -> u8
         ensures { result ≡ state_code self }
     {
         self as u8
-    }
-
-    pub fn is_it(self, other: ThreadState) -> bool
-        ensures { result ≡ is_state self other }
-    {
-        self == other
     }
 }
 

@@ -14,7 +14,7 @@ pub struct TaskControlBlock {
     pub tid: Tid,
     pub qos: QoSClass,
     pub state: ThreadState,
-    // Whether the slot holds a task.
+    // Whether the slot holds a task. No Option of a record: a free slot's fields stay, and are told and written.
     pub in_use: bool,
     // The kernel's own name for the saved registers; never looked into here.
     pub context_handle: u64,
@@ -24,7 +24,7 @@ pub struct TaskControlBlock {
     pub rsp0: u64,
     // Bit N permits core N.
     pub cpu_affinity: u64,
-    // Microseconds: 0, or the band's slice once the task was picked.
+    // Microseconds, as document 01's record has them: 0, or the band's slice once the task was picked.
     pub slice_budget_us: u32,
     // Microseconds of the slice that ticks have used up.
     pub consumed_slice_us: u32,
@@ -45,7 +45,7 @@ impl TaskControlBlock {
         in_use: false,
     };
 
-    // The empty record.
+    // The empty record, as other types have theirs.
     pub fn new() -> Self
         ensures { result ≡ empty_record }
     {
@@ -63,14 +63,13 @@ impl TaskControlBlock {
             context_handle,
             cr3,
             rsp0,
-            cpu_affinity: ALL_CORES,
-            slice_budget_us: 0,
-            consumed_slice_us: 0,
             in_use: true,
+            ..TaskControlBlock::EMPTY
         }
     }
 
-    // The record in another state, all else as it was.
+    // The record in another state, all else as it was. Each field that calls change has such a function, since no parameter can
+    // stand for a field.
     pub fn with_state(self, state: ThreadState) -> Self
         ensures { result ≡ with_state self state }
     {

@@ -1,4 +1,4 @@
--- Laws about the definitions of specs/.
+-- Laws about what a stream writes.
 --
---   Tallies     what a line adds to the counts
-mod Tallies
+--   Written     the text that a stream writes into a buffer
+mod Written

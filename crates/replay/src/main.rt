@@ -5,18 +5,15 @@
 // that the Rust has no part in. oracle/README.md says how the lists were made. The last line counts what was compared.
 #![tactic(auto)]
 
-ghost use Rattle.std.specs.Prelude.{◌≡◌, ◌≤◌, length, IfOk};
-ghost use Rattle.replay.specs.Tallies.{is_name, with_list, BeginsList, Compares, Replays};
+ghost use Rattle.std.specs.Prelude.{◌≡◌, OnOk};
+ghost use Rattle.replay.specs.Tallies.{is_name, none_counted, with_answer, BeginsList, FeedsFrame, Replays};
 ghost use Rattle.replay.specs.Comparing.{as_stored};
 
-use frames::Stream;
+use frames::{ANSWER_LINE_MAX, Stream};
 use scheduler::QoSScheduler;
-use std::io;
-use std::io::{BufReader, Write};
-use text::read_line;
-
-// No stored line is longer, and no answer's.
-const STORED_MAX: usize = 256;
+use std::alloc::{AllocError, Global};
+use std::io::{BufRead, BufReader, Write};
+use std::{fmt, io};
 
 // What begins a list's name.
 const NAME: u8 = b'=';
@@ -25,12 +22,11 @@ const NAME: u8 = b'=';
 const ANY: u8 = b'.';
 
 // Where a replay stands.
-#[derive(Clone, Copy)]
+#[derive(Drop)]
 struct Replay {
     stream: Stream,
-    // How many bytes the last frame's answer has that waits for the stored one; 0 where a frame or a name comes next. A number and
-    // no Option, as the stream says how many it wrote: 0 where a line is not at its end.
-    waiting: usize,
+    // The last frame's answer, where the stored one comes next.
+    waiting: Option<Vec<u8>>,
     counts: Counts,
 }
 
@@ -43,52 +39,58 @@ struct Counts {
 }
 
 fn main(rt: HostRuntime) -> io::Result<()> {
-    let mut input = BufReader::new(rt.alloc(), rt.reader())?;
-    let mut replay = Replay {
-        stream: Stream::new(QoSScheduler::new()),
-        waiting: 0,
-        counts: Counts {
-            lists: 0,
-            calls: 0,
-            differences: 0,
-        },
-    };
-    let mut line = [0u8; STORED_MAX];
-    let mut answer = [0u8; STORED_MAX];
-    // a bound, since a proved loop has to end and nothing says that the input does
-    for _ in 0..u64::MAX {
-        let n = read_line(&mut input, &mut line)?;
-        if n == 0 {
-            break;
-        }
-        let next = replay_line(&rt, replay, &line[..n], &mut answer)?;
-        replay = next;
+    let mut replay = Replay::new();
+    // not `lines`, which would take a carriage return off that makes a line no frame
+    for line in BufReader::new(rt.alloc(), rt.reader())?.split(rt.alloc(), b'\n') {
+        let mut line = line?;
+        // a stream answers a line when its newline comes
+        line.push(b'\n')?;
+        replay.line(&rt, line.as_slice())?;
     }
-    report(&rt, replay.counts)
+    println!(rt; "{}", replay.counts)
 }
 
-// One line, with its newline: the stored answer to the last frame, or a list's name, or a frame.
-fn replay_line(
-    rt: &impl Print,
-    replay: Replay,
-    line: &[u8],
-    answer: &mut [u8],
-) -> io::Result<Replay>
-    requires { replay.waiting ≤ length answer.old }
-    ensures { IfOk result (λ r. Replays replay line.now answer.old answer.new r) }
-{
-    if 0 < replay.waiting {
-        return compared(rt, replay, line, answer);
+impl Replay {
+    fn new() -> Replay
+        ensures begins { BeginsList result }
+        ensures counts { result.counts ≡ none_counted }
+    {
+        Replay {
+            stream: Stream::new(QoSScheduler::new()),
+            waiting: None,
+            counts: Counts {
+                lists: 0,
+                calls: 0,
+                differences: 0,
+            },
+        }
     }
-    if is_name(line) {
-        return Ok(list_begun(replay.counts));
+
+    // One line, with its newline: the stored answer to the last frame, or a list's name, or a frame.
+    fn line(&mut self, rt: &(impl Print + AllocGlobal), line: &[u8]) -> io::Result<()>
+        ensures { OnOk result (Replays self.old line.now self.new) }
+    {
+        if let Some(answer) = self.waiting.take() {
+            return self.counts.compare(rt, answer.as_slice(), line);
+        }
+        if is_name(line) {
+            self.stream = Stream::new(QoSScheduler::new());
+            self.counts.lists = self.counts.lists.wrapping_add(1);
+            return Ok(());
+        }
+        Ok(self.answer(rt.alloc(), line)?)
     }
-    let fed = replay.stream.feed(line, false, answer);
-    Ok(Replay {
-        stream: fed.stream,
-        waiting: fed.written,
-        counts: replay.counts,
-    })
+
+    // A frame's answer waits.
+    fn answer(&mut self, alloc: Global, line: &[u8]) -> Result<(), AllocError>
+        ensures { OnOk result (FeedsFrame self.old line.now self.new) }
+    {
+        let mut answer = [0; ANSWER_LINE_MAX];
+        let fed = self.stream.feed(line, false, &mut answer);
+        self.stream = fed.stream;
+        self.waiting = Some(answer[..fed.written].to_vec(alloc)?);
+        Ok(())
+    }
 }
 
 // Whether a line is a list's name.
@@ -98,38 +100,23 @@ fn is_name(line: &[u8]) -> bool
     line.first() == Some(&NAME)
 }
 
-// A list begins with a new scheduler.
-fn list_begun(counts: Counts) -> Replay
-    ensures begins { BeginsList result }
-    ensures counts { result.counts ≡ with_list counts }
-{
-    Replay {
-        stream: Stream::new(QoSScheduler::new()),
-        waiting: 0,
-        counts: Counts {
-            lists: counts.lists.wrapping_add(1),
-            ..counts
-        },
+impl Counts {
+    // An answer, held against the stored one; a difference is printed with its list and its call, both counted from 1, and with
+    // both answers, which end in newlines.
+    fn compare(&mut self, rt: &impl Print, answer: &[u8], stored: &[u8]) -> io::Result<()>
+        ensures { OnOk result (self.new ≡ with_answer (as_stored answer.now stored.now) self.old) }
+    {
+        self.calls = self.calls.wrapping_add(1);
+        if is_as_stored(answer, stored) {
+            return Ok(());
+        }
+        self.differences = self.differences.wrapping_add(1);
+        print!(rt; "list {}, call {}: stored ", self.lists, self.calls)?;
+        let mut out = io::writer(rt);
+        out.write_all(stored)?;
+        out.write_all(b"found ")?;
+        out.write_all(answer)
     }
-}
-
-// The answer that waits, held against the stored one; a difference is printed with both.
-fn compared(rt: &impl Print, replay: Replay, stored: &[u8], answer: &[u8]) -> io::Result<Replay>
-    requires { replay.waiting ≤ length answer.now }
-    ensures { IfOk result (λ r. Compares replay stored.now answer.now r) }
-{
-    let found = &answer[..replay.waiting];
-    let mut counts = replay.counts;
-    counts.calls = counts.calls.wrapping_add(1);
-    if !is_as_stored(found, stored) {
-        counts.differences = counts.differences.wrapping_add(1);
-        show_difference(rt, counts, stored, found)?;
-    }
-    Ok(Replay {
-        stream: replay.stream,
-        waiting: 0,
-        counts,
-    })
 }
 
 // Whether an answer is the stored one, byte for byte but where that leaves a byte open.
@@ -139,18 +126,13 @@ fn is_as_stored(answer: &[u8], stored: &[u8]) -> bool
     answer.len() == stored.len() && answer.iter().zip(stored).all(|(a, s)| a == s || *s == ANY)
 }
 
-// The list and the call, both counted from 1, and the two answers, which end in newlines.
-fn show_difference(rt: &impl Print, counts: Counts, stored: &[u8], found: &[u8]) -> io::Result<()> {
-    print!(rt; "list {}, call {}: stored ", counts.lists, counts.calls)?;
-    let mut out = io::writer(rt);
-    out.write_all(stored)?;
-    out.write_all(b"found ")?;
-    out.write_all(found)
-}
-
-fn report(rt: &impl Print, counts: Counts) -> io::Result<()> {
-    println!(rt;
-        "{} lists, {} calls, {} differences",
-        counts.lists, counts.calls, counts.differences
-    )
+impl fmt::Display for Counts {
+    fn fmt<W: fmt::Write>(&self, f: &mut fmt::Formatter<W>) -> fmt::Result {
+        let Counts {
+            lists,
+            calls,
+            differences,
+        } = *self;
+        write!(f, "{lists} lists, {calls} calls, {differences} differences")
+    }
 }

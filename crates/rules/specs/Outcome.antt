@@ -1,5 +1,5 @@
 -- What a call makes of a state: an answer and a state. Document 01, "Picking": "Each answer also carries the pick made [..], or none"; the
--- table of refusals: "A refusal changes no state"; "Call frames": "Err: no value."
+-- table of refusals: "A refusal changes no state"; "Call frames": "Refused: no value."
 use Rattle.std.specs.Prelude.{Option, None, Result, Ok, Err}
 use Rattle.rules.specs.declared.answer.Pick.{Pick}
 use Rattle.records.specs.declared.ids.Slot.{Slot}

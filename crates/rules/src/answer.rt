@@ -3,7 +3,8 @@ use records::{QoSClass, SchedError, Slot, TaskControlBlock};
 
 #[derive(Clone, Copy, PartialEq, Eq)]
 pub struct Answer {
-    // Done, or refused, and then nothing was changed.
+    // Done, or refused, and then nothing was changed. It stands beside the pick and not around it: document 01 has the pick's two
+    // bytes in a refusal too, and what is said of picks need not ask for the status.
     pub status: Result<(), SchedError>,
     // What the picking rule took in this call.
     pub pick: Option<Pick>,
@@ -42,6 +43,7 @@ pub struct ContextSwitchPlan {
     pub target: ContextSwitchTarget,
 }
 
+// The Rust's own type, and so no Option: its variants say what the kernel switches to.
 #[derive(Clone, Copy, PartialEq, Eq)]
 pub enum ContextSwitchTarget {
     Task { task_idx: Slot, cr3: u64 },

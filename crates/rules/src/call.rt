@@ -1,4 +1,5 @@
-// Every call and query, in the order of document 01's frames 00 to 10. Each argument may be any number of its width.
+// Every call and query, in the order of document 01's frames 00 to 10; two of them may have the same arguments. Each argument
+// may be any number of its width.
 use records::{QoSClass, Slot, Tid};
 
 #[derive(Clone, Copy, PartialEq, Eq)]

@@ -2,11 +2,16 @@
 -- queues with some of them replaced. Assumes nothing.
 use Rattle.std.proofs.Common.{◌≡◌, ℕ, ◌<◌, List, [], ◌∷◌, length, get_or, set, refl, ap, ◌∙◌, arith}
 use Rattle.std.proofs.lemmas.List.{get_or_default}
+use Rattle.std.specs.Prelude.{Result}
 use Rattle.records.specs.declared.band.QoSClass.{QoSClass}
 use Rattle.records.specs.declared.band.QoSClass.TheVariants.{UserInteractive, RealTimeIO, Background}
+use Rattle.records.specs.declared.error.SchedError.{SchedError}
+use Rattle.records.specs.declared.ids.Slot.{Slot}
 use Rattle.records.specs.declared.task.TaskControlBlock.{TaskControlBlock}
 use Rattle.records.specs.Band.{band_code}
 use Rattle.queue.specs.declared.BandQueue.{BandQueue}
+use Rattle.queue.specs.Entries.{push_result, pushed}
+use Rattle.queue.specs.Promises.{Push}
 use Rattle.queue.specs.Stored.{entries}
 use Rattle.rules.specs.Accepted.{Accepted}
 use Rattle.rules.specs.State.{task, of_band, with_band, queue, holder}
@@ -80,8 +85,19 @@ module _ (qs : List BandQueue) (all : length qs ≡ 3) (b : QoSClass) {place : �
       queues_of (set qs place q) ≡ with_band (queues_of qs) b (f (of_band (queues_of qs) b))
   queue_changed d f q e = queue_put q ∙ ap (with_band (queues_of qs) b) (e ∙ ap f (entries_of d))
 
--- in a scheduler
+-- ---- a band's queue in a scheduler
+
 pub queue_at_lem : (s : QoSScheduler) (b : QoSClass) {place : ℕ} → place ≡ band_code b → (d : BandQueue) →
     entries (get_or s.queues place d) ≡ queue (abs s) b
 unfolding abs
 queue_at_lem s b is d = entries_of s.queues s.bands b is d
+
+-- a push on it answers as the rules say of that band, and changes the queues so
+module _ (s : QoSScheduler) (b : QoSClass) {place : ℕ} (is : place ≡ band_code b) (d : BandQueue) {slot : Slot} {a : Result Unit SchedError}
+    {q : BandQueue} (push : Push (get_or s.queues place d) slot a q) where
+  pub push_answer : a ≡ push_result slot.0 (queue (abs s) b)
+  push_answer = push.answer_is ∙ ap (push_result slot.0) (queue_at_lem s b is d)
+
+  pub push_queues : queues_of (set s.queues place q) ≡ with_band (queues_of s.queues) b (pushed slot.0 (queue (abs s) b))
+  unfolding abs
+  push_queues = queue_changed s.queues s.bands b is d (pushed slot.0) q push.entries_are

@@ -1,15 +1,18 @@
 -- The stored scheduler put together: three queues, what its ghost field asks for, and a scheduler for every accepted state. Assumes nothing.
-use Rattle.std.proofs.Common.{◌≡◌, true, List, [], ◌∷◌, refl, ap, ◌∙◌}
+use Rattle.std.proofs.Common.{◌≡◌, true, ℕ, List, [], ◌∷◌, length, get_or, set, refl, ap, ◌∙◌}
+use Rattle.records.specs.declared.task.TaskControlBlock.{TaskControlBlock}
+use Rattle.records.specs.Band.{band_code}
 use Rattle.records.specs.declared.band.QoSClass.{QoSClass}
 use Rattle.records.specs.declared.band.QoSClass.TheVariants.{UserInteractive, RealTimeIO, Background}
 use Rattle.queue.specs.declared.BandQueue.{BandQueue}
 use Rattle.queue.specs.Stored.{entries}
 use Rattle.queue.proofs.Stored.{stored}
 use Rattle.rules.specs.Accepted.{Accepted, accepts}
-use Rattle.rules.specs.State.{State, Queues, queue, with_queues}
+use Rattle.rules.specs.State.{State, Queues, queue, with_task, with_queues, with_queue, with_holders, with_holder, with_micros}
 use Rattle.rules.proofs.Accepts.{accepts_complete}
 use Rattle.scheduler.specs.declared.scheduler.QoSScheduler.{QoSScheduler}
-use Rattle.scheduler.specs.Stored.{queues_of}
+use Rattle.scheduler.specs.Stored.{queues_of, state_of}
+use Rattle.scheduler.proofs.Arrays.{queue_changed}
 use Rattle.scheduler.specs.Scheduler.{abs}
 
 -- a queue for each band
@@ -39,3 +42,27 @@ module _ (t : State) (ok : Accepted t) where
     record { tasks = t.tasks; queues = three_stored; current = t.holders; system_ticks_us = t.micros; bands = refl; accepted = accepted_as holds ok },
     holds,
   )
+
+-- ---- a part replaced, with what is held then
+
+module _ {tasks : List TaskControlBlock} (queues : List BandQueue) {current : List ℕ} {micros : ℕ} {now : State} (holds : state_of tasks queues current micros ≡ now) where
+  pub put_task_lem : (slot : ℕ) {t u : TaskControlBlock} → t ≡ u → state_of (set tasks slot t) queues current micros ≡ with_task now slot u
+  put_task_lem slot is = λ i. with_task (holds i) slot (is i)
+
+  pub put_queues_lem : (qs : List BandQueue) {q : Queues} → queues_of qs ≡ q → state_of tasks qs current micros ≡ with_queues now q
+  put_queues_lem qs is = λ i. with_queues (holds i) (is i)
+
+  pub put_holders_lem : {hs held : List ℕ} → hs ≡ held → state_of tasks queues hs micros ≡ with_holders now held
+  put_holders_lem is = λ i. with_holders (holds i) (is i)
+
+  pub put_holder_lem : (core slot : ℕ) → state_of tasks queues (set current core slot) micros ≡ with_holder now core slot
+  put_holder_lem core slot = λ i. with_holder (holds i) core slot
+
+  pub put_micros_lem : {n gained : ℕ} → n ≡ gained → state_of tasks queues current n ≡ with_micros now gained
+  put_micros_lem is = λ i. with_micros (holds i) (is i)
+
+  pub put_queue_lem : length queues ≡ 3 → (b : QoSClass) {n : ℕ} → n ≡ band_code b → (dq : BandQueue) (f : List ℕ → List ℕ) (q : BandQueue) →
+      entries q ≡ f (entries (get_or queues n dq)) → state_of tasks (set queues n q) current micros ≡ with_queue now b (f (queue now b))
+  put_queue_lem all b is dq f q e =
+      ap (λ (qs : Queues). record { tasks = tasks; queues = qs; holders = current; micros = micros }) (queue_changed queues all b is dq f q e)
+      ∙ (λ i. with_queue (holds i) b (f (queue (holds i) b)))

@@ -15,6 +15,8 @@ use Rattle.queue.specs.Entries.{entry_at, taken_at}
 use Rattle.queue.specs.Stored.{entries}
 use Rattle.queue.proofs.Entries.{entry_at_in, entry_at-past, entry_at-some}
 use Rattle.rules.specs.declared.answer.Answer.{Answer}
+use Rattle.rules.specs.declared.answer.ContextSwitchTarget.{ContextSwitchTarget}
+use Rattle.rules.specs.declared.answer.ContextSwitchTarget.TheVariants.{Task}
 use Rattle.rules.specs.Accepted.{Accepted, ReadyOf, accepts}
 use Rattle.rules.specs.Outcome.{Chosen, answered}
 use Rattle.rules.specs.State.{State, none_byte, band_order, task, queue, with_band}
@@ -26,7 +28,7 @@ use Rattle.rules.proofs.Invariant.{ready_in_table}
 use Rattle.rules.proofs.Picks.{P-below}
 use Rattle.scheduler.specs.declared.picking.Form.{Form}
 use Rattle.scheduler.specs.declared.scheduler.QoSScheduler.{QoSScheduler}
-use Rattle.scheduler.specs.Private.{IsFirst, Gives, answer_in, pick_answer, who_runs}
+use Rattle.scheduler.specs.Private.{IsFirst, Gives, answer_in, who_runs}
 use Rattle.scheduler.specs.Scheduler.{abs}
 use Rattle.scheduler.specs.Stored.{queues_of, state_of}
 use Rattle.scheduler.proofs.Arrays.{valid, slots, record_at_lem, queue_at_lem, queue_changed}
@@ -187,12 +189,13 @@ module _ (s : QoSScheduler) (core : ℕ) (low : core < 64) where
           })
 
       -- told of the scheduler by the name that it had first
-      pub pick_gives : (f : Form) (previous : Option Slot) {t m : QoSScheduler} → s ≡ t → {a : Answer} → a ≡ pick_answer f previous e read →
+      pub pick_gives : (f : Form) {t m : QoSScheduler} → s ≡ t → {to : ContextSwitchTarget} → to ≡ Task e read.cr3 → {a : Answer} →
+          a ≡ answered (Some (record { slot = e; band = read.qos })) (who_runs f to) →
           abs m ≡ state_of (set s.tasks e.0 u) (set s.queues n q) (set s.current core e.0) s.system_ticks_us →
-          Gives (answer_in f previous (rule_p core (abs t))) (record { answer = a; state = m })
-      pick_gives f previous same a-is state =
-          gives-chosen f previous read.cr3 (ap (λ (r : QoSScheduler). rule_p core (abs r)) (sym same) ∙ pick_comes)
-          (ap (λ (r : TaskControlBlock). r.cr3) (sym u-is ∙ sym (get_or-set_same s.tasks e.0 u empty_record (omega (arith, first_low, slots s)))))
-          (a-is ∙ (λ i. answered (Some (record { slot = e; band = (ap (λ (r : TaskControlBlock). r.qos) read_is ∙ ready.in_band) i }))
-          (who_runs f previous (Some e) read.cr3)))
+          Gives (answer_in f (rule_p core (abs t))) (record { answer = a; state = m })
+      pick_gives f same {to} to-is a-is state =
+          gives-chosen f (ap (λ (r : QoSScheduler). rule_p core (abs r)) (sym same) ∙ pick_comes)
+          (to-is
+          ∙ ap (λ (r : TaskControlBlock). Task e r.cr3) (sym u-is ∙ sym (get_or-set_same s.tasks e.0 u empty_record (omega (arith, first_low, slots s)))))
+          (a-is ∙ (λ i. answered (Some (record { slot = e; band = (ap (λ (r : TaskControlBlock). r.qos) read_is ∙ ready.in_band) i })) (who_runs f to)))
           state

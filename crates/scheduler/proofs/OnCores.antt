@@ -23,10 +23,13 @@ use Rattle.records.proofs.Cases.{split}
 use Rattle.queue.specs.declared.BandQueue.{BandQueue}
 use Rattle.queue.specs.Promises.{Push}
 use Rattle.queue.specs.Entries.{pushed}
+use Rattle.rules.specs.declared.answer.ContextSwitchTarget.{ContextSwitchTarget}
+use Rattle.rules.specs.declared.answer.ContextSwitchTarget.TheVariants.{Task}
 use Rattle.rules.specs.declared.answer.Value.TheVariants as value
 use Rattle.rules.specs.Accepted.{Accepted, MayHold, accepts}
 use Rattle.rules.specs.Outcome.{Chosen, answered, done, refused}
 use Rattle.rules.specs.Picking.{no_choice, rule_p, answer_slot}
+use Rattle.rules.specs.Queries.{holder_record, current_task_on_cpu}
 use Rattle.rules.specs.State.{State, none_byte, task, queue, holder_in, holder_of, with_task, with_queue, with_micros}
 use Rattle.rules.specs.Ticking.{gain, cleared, waits_before, slice_over, requeued, stays_holder, ticked, tick, planned, answer_plan, yield, handoff_in, handoff}
 use Rattle.rules.specs.Took.{out_of_slice}
@@ -44,9 +47,9 @@ use Rattle.scheduler.specs.Private.{Gives, answer_in, who_runs}
 use Rattle.scheduler.specs.declared.scheduler.Reply.{Reply}
 use Rattle.scheduler.specs.Scheduler.{abs, Meets}
 use Rattle.scheduler.specs.Stored.{state_of}
-use Rattle.scheduler.proofs.Arrays.{valid, known, record_at_lem, holder_at, queue_changed}
+use Rattle.scheduler.proofs.Arrays.{valid, known, record_at_lem, push_queues}
 use Rattle.scheduler.proofs.OnSlots.{so, so_not}
-use Rattle.scheduler.proofs.Promises.{unharmed, meets_given, gives-chosen, gives_as}
+use Rattle.scheduler.proofs.Promises.{unharmed, meets_given, gives-chosen}
 
 slice_small : (q : QoSClass) → slice q ≤ 20000
 slice_small UserInteractive = omega arith
@@ -83,6 +86,16 @@ module _ (s : QoSScheduler) (core : ℕ) (past : 64 ≤ core) where
   unfolding handoff
   handoff_past = rw (le-leb 64 core past) refl
 
+-- ---- the record of a core's holder, which was read
+
+pub holder_task : (s : QoSScheduler) (core : ℕ) {o : Option Slot} → o ≡ holder_of (abs s) core → holder_record o (abs s) ≡ current_task_on_cpu core (abs s)
+unfolding current_task_on_cpu
+holder_task s core is =
+    ap (λ (o : Option Slot). holder_record o (abs s)) is
+    ∙ split (λ (b : Bool). holder_record (holder_of (abs s) core) (abs s) ≡ cond b None (holder_record (holder_of (abs s) core) (abs s))) (leb 64 core)
+    (λ past. rw (none_held s core (leb-true 64 core past)) refl)
+    (λ _. refl)
+
 -- ---- the tick, told as a slot or as a plan
 
 pub tick_told : {s : QoSScheduler} {core elapsed : ℕ} {r : Reply} → Gives (answer_slot (ticked core elapsed (abs s))) r →
@@ -90,14 +103,15 @@ pub tick_told : {s : QoSScheduler} {core elapsed : ℕ} {r : Reply} → Gives (a
 unfolding tick
 tick_told g = meets_given g refl
 
-pub plan_told : {s : QoSScheduler} {core elapsed : ℕ} {r : Reply} → Gives (answer_plan (holder_of (abs s) core) (ticked core elapsed (abs s))) r →
-    Meets (Plan core elapsed) s r
+pub plan_told : {s : QoSScheduler} {core elapsed : ℕ} {previous : Option Slot} {r : Reply} → previous ≡ holder_of (abs s) core →
+    Gives (answer_plan previous (ticked core elapsed (abs s))) r → Meets (Plan core elapsed) s r
 unfolding planned
-plan_told {s} {core} {elapsed} g =
+plan_told {s} {core} {elapsed} is g =
     meets_given g (split (λ (b : Bool). cond b (done (value.Plan None) (abs s)) (answer_plan (holder_of (abs s) core) (ticked core elapsed (abs s)))
     ≡ answer_plan (holder_of (abs s) core) (ticked core elapsed (abs s))) (leb 64 core)
     (λ past. rw (none_held s core (leb-true 64 core past), tick_past s core (leb-true 64 core past) elapsed) refl)
-    (λ _. refl))
+    (λ _. refl)
+    ∙ ap (λ (p : Option Slot). answer_plan p (ticked core elapsed (abs s))) (sym is))
 
 -- ---- a core below 64
 
@@ -129,31 +143,27 @@ module _ (s : QoSScheduler) (core : ℕ) (low : core < 64) where
   pub later_cleared_kept : (elapsed : ℕ) → accepts (cleared core (later s elapsed)) ≡ true
   later_cleared_kept elapsed = unharmed refl (clears (later s elapsed) (gone_by elapsed).invariant core low)
 
-module _ (s : QoSScheduler) (core : ℕ) (low : core < 64) (d : ℕ) where
-  -- `o` is the holder that was read
-  pub held : {o : Option Slot} → o ≡ holder_in (get_or s.current core d) → holder_of (abs s) core ≡ o
-  held o-is = ap holder_in (sym (holder_at s core d low)) ∙ sym o-is
-
+module _ (s : QoSScheduler) (core : ℕ) (low : core < 64) where
   -- ---- nobody holds the core
 
-  module _ (none : None ≡ holder_in (get_or s.current core d)) where
+  module _ (none : None ≡ holder_of (abs s) core) where
     pub tick_none : (elapsed : ℕ) → ticked core elapsed (abs s) ≡ rule_p core (later s elapsed)
     unfolding ticked
-    tick_none elapsed = rw (lt-leb 64 core low, held none) refl
+    tick_none elapsed = rw (lt-leb 64 core low, sym none) refl
 
-    pub yield_none : {previous : Option Slot} → previous ≡ None → yield core (abs s) ≡ answer_plan previous (rule_p core (abs s))
+    pub yield_none : yield core (abs s) ≡ answer_plan None (rule_p core (abs s))
     unfolding yield
-    yield_none is = rw (lt-leb 64 core low, held none, is) refl
+    yield_none = rw (lt-leb 64 core low, sym none) refl
 
     pub handoff_none : handoff core (abs s) ≡ refused NoSuchTask (abs s)
     unfolding handoff
-    handoff_none = rw (lt-leb 64 core low, held none) refl
+    handoff_none = rw (lt-leb 64 core low, sym none) refl
 
   -- ---- somebody does
 
-  module _ {h : Slot} (some : Some h ≡ holder_in (get_or s.current core d)) where
+  module _ {h : Slot} (some : Some h ≡ holder_of (abs s) core) where
     may : MayHold (task (abs s) h.0)
-    may = holder_is (abs s) (known s) core h (held some)
+    may = holder_is (abs s) (known s) core h (sym some)
 
     pub holder_low : h.0 < 64
     holder_low = used_in_table (abs s) (valid s).slots h.0 may.used
@@ -197,7 +207,7 @@ module _ (s : QoSScheduler) (core : ℕ) (low : core < 64) (d : ℕ) where
         tailed micros =
             (λ i. record {
               tasks = set s.tasks h.0 (u-is i);
-              queues = queue_changed s.queues s.bands read.qos code.is dq (pushed h.0) q push.entries_are i;
+              queues = push_queues s read.qos code.is dq push i;
               holders = s.current;
               micros = micros;
             })
@@ -208,7 +218,7 @@ module _ (s : QoSScheduler) (core : ℕ) (low : core < 64) (d : ℕ) where
       module _ (elapsed : ℕ) where
         pub tick_blocked : true ≡ sameb the_type read.state Blocked → ticked core elapsed (abs s) ≡ rule_p core (cleared core (later s elapsed))
         unfolding ticked
-        tick_blocked is = rw (lt-leb 64 core low, held some, read_is, so read.state Blocked is) refl
+        tick_blocked is = rw (lt-leb 64 core low, sym some, read_is, so read.state Blocked is) refl
 
         module _ (is : false ≡ sameb the_type read.state Blocked) where
           awake : is_state (task (abs s) h.0).state Blocked ≡ false
@@ -217,7 +227,7 @@ module _ (s : QoSScheduler) (core : ℕ) (low : core < 64) (d : ℕ) where
           comes_to : (b : Bool) → slice_over h.0 elapsed core (later s elapsed) ≡ b →
               ticked core elapsed (abs s) ≡ cond b (rule_p core (requeued h.0 (later s elapsed))) (stays_holder h elapsed (later s elapsed))
           unfolding ticked
-          comes_to b test = rw (lt-leb 64 core low, held some, awake, test) refl
+          comes_to b test = rw (lt-leb 64 core low, sym some, awake, test) refl
 
           -- the slice goes on
           module _ (short : read.consumed_slice_us + elapsed < read.slice_budget_us) (nobody : false ≡ waits_before read.qos (later s elapsed) core)
@@ -228,13 +238,13 @@ module _ (s : QoSScheduler) (core : ℕ) (low : core < 64) (d : ℕ) where
             pub tick_stays : ticked core elapsed (abs s) ≡ record { next = Some h; pick = None; state = with_task (later s elapsed) h.0 u }
             tick_stays = comes_to false goes_on ∙ rw (read_is, u-is) refl
 
-            pub tick_stays_gives : (f : Form) {previous : Option Slot} {a : Answer} {m : QoSScheduler} → holder_of (abs s) core ≡ previous →
-                a ≡ answered None (who_runs f previous (Some h) read.cr3) → abs m ≡ with_task (later s elapsed) h.0 u →
-                Gives (answer_in f (holder_of (abs s) core) (ticked core elapsed (abs s))) (record { answer = a; state = m })
+            pub tick_stays_gives : (f : Form) {t : ContextSwitchTarget} {a : Answer} {m : QoSScheduler} → t ≡ Task h read.cr3 →
+                a ≡ answered None (who_runs f t) → abs m ≡ with_task (later s elapsed) h.0 u →
+                Gives (answer_in f (ticked core elapsed (abs s))) (record { answer = a; state = m })
             unfolding abs
-            tick_stays_gives f {previous} previous-is a-is state =
-                gives_as f (sym previous-is) refl (gives-chosen f previous read.cr3 tick_stays
-                (ap (λ (r : TaskControlBlock). r.cr3) (sym u-is ∙ sym (get_or-set_same s.tasks h.0 u empty_record there))) a-is state)
+            tick_stays_gives f t-is a-is state =
+                gives-chosen f tick_stays
+                (t-is ∙ ap (λ (r : TaskControlBlock). Task h r.cr3) (sym u-is ∙ sym (get_or-set_same s.tasks h.0 u empty_record there))) a-is state
 
           -- the slice is over: the budget is reached, or an earlier band's entry waits
           pub record Over (p : Parts) : Type 0 where
@@ -303,7 +313,7 @@ module _ (s : QoSScheduler) (core : ℕ) (low : core < 64) (d : ℕ) where
 
       pub yield_other : true ≡ not (sameb the_type read.state Running) → yield core (abs s) ≡ refused NoSuchTask (abs s)
       unfolding yield
-      yield_other is = rw (lt-leb 64 core low, held some, read_is, so_not read.state Running is) refl
+      yield_other is = rw (lt-leb 64 core low, sym some, read_is, so_not read.state Running is) refl
 
       module _ (is : false ≡ not (sameb the_type read.state Running)) where
         runs : is_state (task (abs s) h.0).state Running ≡ true
@@ -314,7 +324,7 @@ module _ (s : QoSScheduler) (core : ℕ) (low : core < 64) (d : ℕ) where
 
         yields-to : yield core (abs s) ≡ answer_plan (Some h) (rule_p core (cleared core (enqueued h.0 (abs s))))
         unfolding yield
-        yields-to = rw (lt-leb 64 core low, held some, runs, enqueue_done (abs s) (known s) h.0 holder_low may.used idle) refl
+        yields-to = rw (lt-leb 64 core low, sym some, runs, enqueue_done (abs s) (known s) h.0 holder_low may.used idle) refl
 
         module _ {n : ℕ} (code : IsBandCode read.qos n) (dq : BandQueue) {a : Result Unit SchedError} {q : BandQueue}
             (push : Push (get_or s.queues n dq) h a q) {u : TaskControlBlock} (u-is : u ≡ with_state read Ready) where
@@ -334,7 +344,7 @@ module _ (s : QoSScheduler) (core : ℕ) (low : core < 64) (d : ℕ) where
 
       handoff_by : {st : ThreadState} → read.state ≡ st → handoff core (abs s) ≡ handoff_in st h core (abs s)
       unfolding handoff
-      handoff_by is = rw (lt-leb 64 core low, held some, read_is, is) refl
+      handoff_by is = rw (lt-leb 64 core low, sym some, read_is, is) refl
 
       pub handoff_running : read.state ≡ Running → handoff core (abs s) ≡ done (value.Plan None) (abs s)
       handoff_running is = handoff_by is

@@ -7,6 +7,7 @@ use denote.Enum.Bare.{sameb}
 use Rattle.std.specs.Prelude.{Option, None, Some, Result, Ok, Err, is_some}
 use Rattle.records.specs.contracts.state.ThreadState.{the_type}
 use Rattle.records.specs.declared.band.QoSClass.{QoSClass}
+use Rattle.records.specs.declared.band.QoSClass.TheVariants.{UserInteractive, RealTimeIO, Background}
 use Rattle.records.specs.declared.error.SchedError.{SchedError}
 use Rattle.records.specs.declared.error.SchedError.TheVariants.{TableFull, NoSuchTask, QueueFull, AlreadyReady, AlreadyBlocked, NotBlocked}
 use Rattle.records.specs.declared.ids.Tid.{Tid}
@@ -18,10 +19,11 @@ use Rattle.records.specs.Task.{created, with_mask, with_state, blocked, terminat
 use Rattle.records.specs.ThreadState.{is_state}
 use Rattle.records.proofs.Cases.{split, neither}
 use Rattle.queue.specs.Entries.{full, push_result, pushed, without}
+use Rattle.queue.proofs.Entries.{takes-slot, pushed-refused}
 use Rattle.rules.specs.declared.answer.Value.TheVariants as value
 use Rattle.rules.specs.Outcome.{done, refused}
 use Rattle.rules.specs.Queries.{task_at, core_below}
-use Rattle.rules.specs.State.{State, Queues, task, queue, with_band, each_queue, with_task, with_queues, with_holders}
+use Rattle.rules.specs.State.{State, Queues, task, of_band, queue, with_band, each_queue, with_task, with_queues, with_holders}
 use Rattle.rules.specs.Waking.{missing, released, core_holding, is_held, free_slot, create, affinity, terminate, block, wake, enqueue}
 use Rattle.scheduler.specs.Private.{in_use_at}
 
@@ -76,6 +78,13 @@ module _ (s : State) (tid : Tid) (band : QoSClass) (context cr3 rsp0 : ℕ) wher
   unfolding create
   create_done {free} some u-is =
       let r = found_some (free_slot s) some in rw (r.0, u-is) (rw (lt-leb 64 free r.1) refl)
+
+-- ---- a band's queue put in its own place
+
+band_itself : (q : Queues) (b : QoSClass) → with_band q b (of_band q b) ≡ q
+band_itself q UserInteractive = refl
+band_itself q RealTimeIO = refl
+band_itself q Background = refl
 
 -- ---- a slot that is named
 
@@ -169,9 +178,9 @@ module _ (s : State) (slot : ℕ) where
     wake_awake is = rw (here, read_is, so_not t.state Blocked is) refl
 
     -- a Blocked task that no core holds is woken as it is enqueued
-    pub wake_free : false ≡ not (sameb the_type t.state Blocked) → is_held s slot ≡ false → wake slot s ≡ enqueue slot s
+    pub wake_as_enqueue : false ≡ not (sameb the_type t.state Blocked) → is_held s slot ≡ false → wake slot s ≡ enqueue slot s
     unfolding wake
-    wake_free is free = rw (here, read_is, so_not t.state Blocked is, free) refl
+    wake_as_enqueue is free = rw (here, read_is, so_not t.state Blocked is, free) refl
 
     pub wake_held : false ≡ not (sameb the_type t.state Blocked) → is_held s slot ≡ true → {u : TaskControlBlock} → u ≡ with_state t Running →
         wake slot s ≡ done value.Nothing (with_task s slot u)
@@ -188,6 +197,14 @@ module _ (s : State) (slot : ℕ) where
     unfolding enqueue
     enqueue_full is answer =
         let full-is = push_refused low (queue s t.qos) answer in rw (here, read_is, so t.state Ready is, full-is.0, full-is.1) refl
+
+    -- and leaves the queues as they were where it is refused
+    pub full_stays : {e : SchedError} → Err e ≡ push_result slot (queue s t.qos) → {q : Queues} →
+        q ≡ with_band s.queues t.qos (pushed slot (queue s t.qos)) → with_queues s q ≡ s
+    full_stays answer q-is =
+        let none = takes-slot slot (queue s t.qos) low ∙ ap not (push_refused low (queue s t.qos) answer).0 in
+        ap (with_queues s)
+        (q-is ∙ ap (with_band s.queues t.qos) (pushed-refused slot (queue s t.qos) none) ∙ band_itself s.queues t.qos)
 
     pub enqueue_done : false ≡ sameb the_type t.state Ready → {x : Unit} {q : Queues} {u : TaskControlBlock} →
         Ok x ≡ push_result slot (queue s t.qos) →

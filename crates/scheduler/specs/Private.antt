@@ -8,7 +8,6 @@ use Rattle.queue.specs.declared.BandQueue.{BandQueue}
 use Rattle.queue.specs.Entries.{without}
 use Rattle.scheduler.specs.declared.scheduler.QoSScheduler.{QoSScheduler}
 use Rattle.scheduler.specs.declared.scheduler.Reply.{Reply}
-use Rattle.rules.specs.declared.answer.Answer.{Answer}
 use Rattle.rules.specs.declared.answer.ContextSwitchTarget.{ContextSwitchTarget}
 use Rattle.rules.specs.declared.answer.ContextSwitchTarget.TheVariants.{Task, Idle}
 use Rattle.rules.specs.declared.answer.Value.{Value}
@@ -55,19 +54,16 @@ abbrev pub FirstPermitted : State → ℕ → QoSClass → Option (ℕ × Slot) 
 FirstPermitted s core band o = MatchOption o (waits_in s core band ≡ false) (IsFirst s core band)
 
 -- who is to run, told as the slot, or as a plan from the previous holder
-abbrev pub answer_in : Form → Option Slot → Chosen → Outcome
-answer_in form.Slot previous c = answer_slot c
-answer_in form.Plan previous c = answer_plan previous c
+abbrev pub answer_in : Form → Chosen → Outcome
+answer_in form.Slot c = answer_slot c
+answer_in (form.Plan previous) c = answer_plan previous c
 
--- the same as a value, where the cr3 of the task that is to run is known
-abbrev pub target_with : Option Slot → ℕ → ContextSwitchTarget
-target_with None cr3 = Idle
-target_with (Some n) cr3 = Task n cr3
+-- the slot of who is to run
+abbrev pub slot_of : ContextSwitchTarget → Option Slot
+slot_of Idle = None
+slot_of (Task n cr3) = Some n
 
-abbrev pub who_runs : Form → Option Slot → Option Slot → ℕ → Value
-who_runs form.Slot previous next cr3 = value.Slot next
-who_runs form.Plan previous next cr3 = value.Plan (plan_to previous next (target_with next cr3))
-
--- the answer to a pick: the slot, by its record, is the pick made and who is to run
-abbrev pub pick_answer : Form → Option Slot → Slot → TaskControlBlock → Answer
-pick_answer f previous s t = answered (Some (record { slot = s; band = t.qos })) (who_runs f previous (Some s) t.cr3)
+-- the same as a value, where the target is known
+abbrev pub who_runs : Form → ContextSwitchTarget → Value
+who_runs form.Slot target = value.Slot (slot_of target)
+who_runs (form.Plan previous) target = value.Plan (plan_to previous (slot_of target) target)

@@ -1,5 +1,5 @@
-// Block and tick on a lent state, which they change. The method by value does the call; its answer is returned, and the state
-// that it gives back is stored behind the reference.
+// Block and tick on a lent state, which they change: the two thin functions that document 01 asks for. The method by value does
+// the call; its answer is returned, and the state that it gives back is stored behind the reference.
 ghost use Rattle.scheduler.specs.Scheduler.{MeetsLent};
 
 use crate::scheduler::QoSScheduler;

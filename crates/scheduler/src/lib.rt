@@ -11,7 +11,7 @@
 // Every scheduler came from `new`, an accepted image or an earlier call: its ghost fields say that what it holds is accepted.
 // So a call presumes nothing. It answers for all arguments, and ensures `Meets`: the whole answer and the whole state are what
 // document 01's rule for it makes. The rules, with `Call` and `Answer` and their parts, are the crate below; these types are
-// handed on here.
+// handed on here. Methods have the Rust's names and parameters, those too that only hand on: for core 0, or without cr3 and rsp0.
 #![tactic(auto)]
 
 mod answer;

@@ -2,6 +2,7 @@
 ghost use Rattle.std.specs.Prelude.{◌≡◌};
 ghost use Rattle.rules.specs.Queries.{can_run_on_core, task_index_for_tid, task_at, current_task_on_cpu, core_of, core_below};
 ghost use Rattle.scheduler.specs.Scheduler.{abs};
+ghost use Rattle.rules.specs.State.{holder_of};
 ghost use Rattle.rules.specs.Waking.{core_holding};
 
 use crate::scheduler::{QoSScheduler, holder_of};
@@ -45,8 +46,14 @@ impl QoSScheduler {
     pub fn current_task_on_cpu(&self, core: usize) -> Option<TaskControlBlock>
         ensures { result ≡ current_task_on_cpu core (abs self.now) }
     {
-        let holder = holder_of(*self.current.get(core)?)?;
-        self.task(holder)
+        self.task(self.holder_on(core)?)
+    }
+
+    // Who holds the core; None where nobody does, and for 64 and above.
+    pub(crate) fn holder_on(&self, core: usize) -> Option<Slot>
+        ensures { result ≡ holder_of (abs self.now) core }
+    {
+        holder_of(*self.current.get(core)?)
     }
 
     // The system microseconds.

@@ -10,15 +10,18 @@ use queue::BandQueue;
 use records::{BAND_COUNT, MAX_CPUS, MAX_TASKS, SchedError, Slot, TaskControlBlock};
 use rules::{Answer, Call, Value};
 
-// What stands for none in a core's holder: document 01's number in a byte, as the image has it. An Option would take two bytes a core.
+// What stands for none in a core's holder: document 01's number in a byte, as the image has it. An Option would take two bytes
+// a core.
 pub const NO_HOLDER: u8 = 255;
 
-// Every scheduler that there is came from `new`, an accepted image or an earlier call: what it holds is accepted.
+// Every scheduler that there is came from `new`, an accepted image or an earlier call: what it holds is accepted. Its parts are
+// arrays of fixed length, since there is no heap, and a slot is document 01's number for a place among the records.
 #[derive(Clone, Copy)]
 pub struct QoSScheduler {
     // A record for each slot.
     pub tasks: [TaskControlBlock; MAX_TASKS],
-    // A queue for each band, at the band's code.
+    // A queue for each band, at the band's code. Methods lend the array first and a queue of it then, since no element of a field
+    // beside ghost fields can be lent at once.
     pub queues: [BandQueue; BAND_COUNT],
     // The slot that each core holds, or NO_HOLDER.
     pub current: [u8; MAX_CPUS],
@@ -28,7 +31,7 @@ pub struct QoSScheduler {
     pub ghost accepted: { accepts (state_of tasks queues current system_ticks_us) ≡ true },
 }
 
-// What a call gives back: its answer, and the state after it.
+// What a call gives back, as document 01 has it: the answer with the state by value, which a refusal leaves as it was.
 #[derive(Clone, Copy)]
 pub struct Reply {
     pub answer: Answer,
@@ -60,13 +63,15 @@ impl QoSScheduler {
     {
         match call {
             Call::Tick { core, elapsed_us } => self.ticked(core, elapsed_us, Form::Slot),
-            Call::Plan { core, elapsed_us } => self.ticked(core, elapsed_us, Form::Plan),
+            Call::Plan { core, elapsed_us } => {
+                self.ticked(core, elapsed_us, Form::Plan(self.holder_on(core)))
+            }
             _ => self.apply_any(call),
         }
     }
 
-    // Any call or query, as the method for it does it. A query leaves the state as it was. It has a frame of its own on the
-    // stack, so that a report does not need the room of the other calls as well.
+    // Any call or query, as the method for it does it: a match names all of them, the two of `apply` too. A query leaves the
+    // state as it was. It has a frame of its own on the stack, so that a report does not need the room of the other calls as well.
     #[inline(never)]
     fn apply_any(self, call: Call) -> Reply
         ensures { Meets call self result }

@@ -1,14 +1,13 @@
-// Tick, yield, handoff and plan.
+// Tick, yield, handoff and plan. What they test alike stands in each, as in waking.rt.
 ghost use Rattle.scheduler.specs.Scheduler.{Meets, abs};
 ghost use Rattle.scheduler.specs.Private.{Gives, answer_in};
-ghost use Rattle.rules.specs.State.{holder_of};
 ghost use Rattle.rules.specs.Ticking.{ticked, waits_before};
 ghost use Rattle.std.specs.Prelude.{◌≡◌};
 
-use crate::picking::{Form, choice_answer, who_runs};
-use crate::scheduler::{NO_HOLDER, QoSScheduler, Reply, holder_of};
+use crate::picking::{Form, target};
+use crate::scheduler::{NO_HOLDER, QoSScheduler, Reply};
 use records::{MAX_CPUS, QoSClass, SchedError, ThreadState};
-use rules::{Call, Value};
+use rules::{Call, ContextSwitchTarget, Value};
 
 impl QoSScheduler {
     // A tick of core 0.
@@ -27,57 +26,51 @@ impl QoSScheduler {
         self.ticked(core, elapsed_us, Form::Slot)
     }
 
-    // The tick, told as a slot or as a plan from the holder that the core had. The queue has room for the holder: 64
-    // entries would be 64 Ready slots, and it is not Ready when it is pushed.
+    // The tick, told in either form. The queue has room for the holder, so that no refusal is looked at: 64 entries would be
+    // 64 Ready slots, and it is not Ready when it is pushed.
     pub(crate) fn ticked(mut self, core: usize, elapsed_us: u32, form: Form) -> Reply
-        ensures { Gives (answer_in form (holder_of (abs self) core) (ticked core elapsed_us (abs self))) result }
+        ensures { Gives (answer_in form (ticked core elapsed_us (abs self))) result }
     {
         let now = self.system_ticks_us.wrapping_add(elapsed_us as u64);
         if core >= MAX_CPUS {
-            return self.told(who_runs(form, None, None, 0));
+            return self.told(form.who_runs(ContextSwitchTarget::Idle));
         }
+        let holder = self.holder_on(core);
         self.system_ticks_us = now;
-        let previous = holder_of(self.current[core]);
-        let Some(slot) = previous else {
-            return self.pick(core, form, previous);
+        let Some(slot) = holder else {
+            return self.pick(core, form);
         };
         let task = self.tasks[slot.0];
         if task.state == ThreadState::Blocked {
             self.current[core] = NO_HOLDER;
-            return self.pick(core, form, previous);
+            return self.pick(core, form);
         }
         let charged = task.consumed_slice_us as u64 + elapsed_us as u64;
         if charged < task.slice_budget_us as u64 && !self.waits_before(task.qos, core) {
             self.tasks[slot.0] = task.with_consumed(charged as u32);
             return Reply {
-                answer: choice_answer(None, form, previous, previous, task.cr3),
+                answer: form.answer(None, target(slot, task)),
                 state: self,
             };
         }
         if task.state == ThreadState::Ready {
             self.tasks[slot.0] = task.with_consumed(0);
-            return self.pick(core, form, previous);
+            return self.pick(core, form);
         }
-        let band = task.qos.code() as usize;
-        let mut queue = self.queues[band];
-        let _ = queue.push(slot);
-        self.queues[band] = queue;
+        let queues = &mut self.queues;
+        let _ = queues[task.qos.code() as usize].push(slot);
         self.tasks[slot.0] = task.with_consumed(0).with_state(ThreadState::Ready);
-        self.pick(core, form, previous)
+        self.pick(core, form)
     }
 
     // Whether an entry that may use the core waits in an earlier band.
     fn waits_before(&self, qos: QoSClass, core: usize) -> bool
         ensures { result ≡ waits_before qos (abs self.now) core }
     {
-        match qos {
-            QoSClass::UserInteractive => false,
-            QoSClass::RealTimeIO => self.has_ready_on_core(QoSClass::UserInteractive, core),
-            QoSClass::Background => {
-                self.has_ready_on_core(QoSClass::UserInteractive, core)
-                    || self.has_ready_on_core(QoSClass::RealTimeIO, core)
-            }
-        }
+        QoSClass::ALL
+            .iter()
+            .take(qos.code() as usize)
+            .any(|band| self.has_ready_on_core(*band, core))
     }
 
     // The core's Running holder goes to the tail of its band, then a pick; a core without a holder only picks. No time
@@ -88,22 +81,20 @@ impl QoSScheduler {
         if core >= MAX_CPUS {
             return self.refused(SchedError::NoSuchTask);
         }
-        let previous = holder_of(self.current[core]);
+        let previous = self.holder_on(core);
         let Some(slot) = previous else {
-            return self.pick(core, Form::Plan, previous);
+            return self.pick(core, Form::Plan(None));
         };
         let task = self.tasks[slot.0];
         if task.state != ThreadState::Running {
             return self.refused(SchedError::NoSuchTask);
         }
         // There is room, as in a tick.
-        let band = task.qos.code() as usize;
-        let mut queue = self.queues[band];
-        let _ = queue.push(slot);
-        self.queues[band] = queue;
+        let queues = &mut self.queues;
+        let _ = queues[task.qos.code() as usize].push(slot);
         self.tasks[slot.0] = task.with_state(ThreadState::Ready);
         self.current[core] = NO_HOLDER;
-        self.pick(core, Form::Plan, previous)
+        self.pick(core, Form::Plan(previous))
     }
 
     // A pick in place of the core's Blocked holder. A Running holder, woken before the handoff came, goes on: no plan.
@@ -114,7 +105,7 @@ impl QoSScheduler {
         if core >= MAX_CPUS {
             return self.refused(SchedError::NoSuchTask);
         }
-        let previous = holder_of(self.current[core]);
+        let previous = self.holder_on(core);
         let Some(slot) = previous else {
             return self.refused(SchedError::NoSuchTask);
         };
@@ -122,7 +113,7 @@ impl QoSScheduler {
             ThreadState::Running => self.told(Value::Plan(None)),
             ThreadState::Blocked => {
                 self.current[core] = NO_HOLDER;
-                self.pick(core, Form::Plan, previous)
+                self.pick(core, Form::Plan(previous))
             }
             ThreadState::Ready => self.refused(SchedError::NotBlocked),
             ThreadState::Terminated => self.refused(SchedError::NoSuchTask),
@@ -140,6 +131,6 @@ impl QoSScheduler {
     pub fn plan_context_switch_on_cpu(self, core: usize, elapsed_us: u32) -> Reply
         ensures { Meets (Call.Plan core elapsed_us) self result }
     {
-        self.ticked(core, elapsed_us, Form::Plan)
+        self.ticked(core, elapsed_us, Form::Plan(self.holder_on(core)))
     }
 }

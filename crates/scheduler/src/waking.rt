@@ -1,4 +1,7 @@
 // Waiting and waking: create, affinity, terminate, block, wake and enqueue.
+//
+// Each method begins with its refusals, in the order of document 01's table. A call takes the state by value, so that a refusal
+// is a Reply with the state in it, which `?` can't make of an error: what several methods test alike stands in each.
 ghost use Rattle.std.specs.Prelude.{◌≡◌};
 ghost use Rattle.rules.specs.Waking.{released};
 ghost use Rattle.scheduler.specs.Scheduler.{Meets, abs};
@@ -107,12 +110,10 @@ impl QoSScheduler {
         if task.state == ThreadState::Ready {
             return self.refused(SchedError::AlreadyReady);
         }
-        let band = task.qos.code() as usize;
-        let mut queue = self.queues[band];
-        if let Err(error) = queue.push(slot) {
+        let queues = &mut self.queues;
+        if let Err(error) = queues[task.qos.code() as usize].push(slot) {
             return self.refused(error);
         }
-        self.queues[band] = queue;
         self.tasks[slot.0] = task.with_state(ThreadState::Ready);
         self.told(Value::Nothing)
     }

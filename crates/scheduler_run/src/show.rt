@@ -1,11 +1,49 @@
-// What the program prints: answers and values in words.
-use records::Slot;
-use scheduler::{Answer, ContextSwitchTarget, Pick, Value};
-use std::fmt;
+// What the program prints: what was done or asked, and the answer or value in words.
+use records::{Slot, TaskControlBlock};
+use scheduler::{Answer, ContextSwitchPlan, ContextSwitchTarget, Pick, QoSScheduler, Reply, Value};
+use std::{fmt, io};
+use text::{OrNone, yes_or_no};
+
+// Prints what was done and its answer.
+pub(crate) fn answered(
+    rt: &impl Print,
+    what: impl fmt::Display + Drop,
+    reply: Reply,
+) -> io::Result<()> {
+    println!(rt; "{what}: {}", Words(reply.answer))
+}
+
+// The same; the state after it.
+pub(crate) fn shown(
+    rt: &impl Print,
+    what: impl fmt::Display + Drop,
+    reply: Reply,
+) -> io::Result<QoSScheduler> {
+    answered(rt, what, reply)?;
+    Ok(reply.state)
+}
+
+// Prints what was asked and the value found.
+pub(crate) fn asked(rt: &impl Print, what: &str, value: Value) -> io::Result<()> {
+    println!(rt; "{what}: {}", Words(value))
+}
+
+// Prints which core holds a slot.
+pub(crate) fn asked_holder(
+    rt: &impl Print,
+    what: &str,
+    state: &QoSScheduler,
+    slot: Slot,
+) -> io::Result<()> {
+    println!(rt;
+        "{what} is held by: {}",
+        Words(Value::Core(state.holder(slot)))
+    )
+}
 
 // Something in the words that the program prints of it.
 #[derive(Clone, Copy)]
-pub(crate) struct Words<T>(pub T);
+struct Words<T>(T);
 
 // The answer's three parts: status, pick and value.
 impl fmt::Display for Words<Answer> {
@@ -23,43 +61,38 @@ impl fmt::Display for Words<Answer> {
     }
 }
 
-// Each kind of value under its own word; of a record its state's code, mask and consumed microseconds.
+// Each kind of value under its own word.
 impl fmt::Display for Words<Value> {
     fn fmt<W: fmt::Write>(&self, f: &mut fmt::Formatter<W>) -> fmt::Result {
         match self.0 {
             Value::Nothing => write!(f, "no value"),
-            Value::Slot(slot) => write!(f, "slot {}", Words(slot)),
-            Value::Core(None) => write!(f, "core none"),
-            Value::Core(Some(core)) => write!(f, "core {core}"),
-            Value::Plan(None) => write!(f, "plan none"),
-            Value::Plan(Some(plan)) => write!(
-                f,
-                "plan from {} to {}",
-                Words(plan.prev_task_idx),
-                Words(plan.target),
-            ),
-            Value::Flag(false) => write!(f, "no"),
-            Value::Flag(true) => write!(f, "yes"),
-            Value::Task(None) => write!(f, "task none"),
-            Value::Task(Some(task)) => write!(
-                f,
-                "task in state {}, mask {:#x}, consumed {}",
-                task.state.code(),
-                task.cpu_affinity,
-                task.consumed_slice_us,
-            ),
+            Value::Slot(slot) => write!(f, "slot {}", OrNone(slot.map(Words))),
+            Value::Core(core) => write!(f, "core {}", OrNone(core)),
+            Value::Plan(plan) => write!(f, "plan {}", OrNone(plan.map(Words))),
+            Value::Flag(flag) => write!(f, "{}", yes_or_no(flag)),
+            Value::Task(task) => write!(f, "task {}", OrNone(task.map(Words))),
             Value::Micros(us) => write!(f, "{us} microseconds"),
         }
     }
 }
 
 // The slot's number.
-impl fmt::Display for Words<Option<Slot>> {
+impl fmt::Display for Words<Slot> {
     fn fmt<W: fmt::Write>(&self, f: &mut fmt::Formatter<W>) -> fmt::Result {
-        match self.0 {
-            None => write!(f, "none"),
-            Some(slot) => write!(f, "{}", slot.0),
-        }
+        write!(f, "{}", self.0.0)
+    }
+}
+
+// The holder until now, if there was one, and what to switch to.
+impl fmt::Display for Words<ContextSwitchPlan> {
+    fn fmt<W: fmt::Write>(&self, f: &mut fmt::Formatter<W>) -> fmt::Result {
+        let plan = self.0;
+        write!(
+            f,
+            "from {} to {}",
+            OrNone(plan.prev_task_idx.map(Words)),
+            Words(plan.target)
+        )
     }
 }
 
@@ -70,5 +103,19 @@ impl fmt::Display for Words<ContextSwitchTarget> {
             ContextSwitchTarget::Task { task_idx, cr3 } => write!(f, "{} cr3 {cr3:#x}", task_idx.0),
             ContextSwitchTarget::Idle => write!(f, "idle"),
         }
+    }
+}
+
+// Of a record its state's code, mask and consumed microseconds.
+impl fmt::Display for Words<TaskControlBlock> {
+    fn fmt<W: fmt::Write>(&self, f: &mut fmt::Formatter<W>) -> fmt::Result {
+        let task = self.0;
+        write!(
+            f,
+            "in state {}, mask {:#x}, consumed {}",
+            task.state.code(),
+            task.cpu_affinity,
+            task.consumed_slice_us,
+        )
     }
 }

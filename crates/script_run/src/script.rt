@@ -1,23 +1,36 @@
 // What a script works on, and what is done with it.
-use crate::operation::{Operation, Order};
-use crate::said::said_of;
-use crate::space::Space;
+use crate::operation::Order;
+use crate::said::Said;
 use frames::{
-    HostError, call_on_image, new_image, read_frame, read_image, returned, step, write_answer,
-    write_image,
+    ANSWER_MAX, HostError, accepts_image, call_on_image, check_image, new_image, read_frame,
+    read_image, returned, step, write_answer, write_image,
 };
 use scheduler::QoSScheduler;
-use std::alloc::{AllocError, Global};
+use text::{behind, front, is_same};
+
+// An image's length and one byte behind it. This is document 01's own number and not the constant of `frames`, so that a script
+// checks that.
+const SPACE: usize = 3276;
+
+// An answer buffer that is longer than it has to be.
+const ROOM: usize = 60;
+
+// What space and buffer are filled with.
+const MARK: u8 = 170;
 
 #[derive(Clone, Copy)]
 pub(crate) struct Script {
     state: QoSScheduler,
-    space: Space,
+    bytes: [u8; SPACE],
+    kept: [u8; SPACE],
+    // How many bytes of the space, from its front, are the image.
+    length: usize,
+    buffer: [u8; ROOM],
 }
 
 // Why an order came to no answer.
 #[derive(Clone, Copy)]
-pub(crate) enum Refusal {
+enum Refusal {
     // The host's entry refused it.
     Host(HostError),
     // A frame has no call, an image is not written, or there are fewer bytes than are to be lent.
@@ -26,7 +39,7 @@ pub(crate) enum Refusal {
 
 impl Refusal {
     // The number that is told of it: 256 more than document 01's, as a host gets it, or 256 alone.
-    pub(crate) fn number(self) -> u64 {
+    fn number(self) -> u64 {
         match self {
             Refusal::Host(error) => returned(Err(error)),
             Refusal::NotDone => 256,
@@ -44,52 +57,119 @@ impl Script {
     pub(crate) fn new() -> Script {
         Script {
             state: QoSScheduler::new(),
-            space: Space::new(),
+            bytes: [MARK; SPACE],
+            kept: [MARK; SPACE],
+            length: SPACE - 1,
+            buffer: [MARK; ROOM],
         }
     }
 
     // Does an order, and gives what it says.
-    pub(crate) fn order(&mut self, alloc: Global, order: &Order) -> Result<String, AllocError> {
-        let before = self.space;
-        self.space.set(order);
-        let returned = self.done(order);
-        said_of(alloc, order, returned, &before, &self.space)
+    pub(crate) fn order(&mut self, order: &Order) -> Said<'_> {
+        match order {
+            Order::Call(frame) => return self.told(|script| script.call(frame.as_slice())),
+            Order::Apply(frame) => return self.told(|script| script.apply(frame.as_slice())),
+            Order::Step(n, frame) => return self.told(|script| script.step(*n, frame.as_slice())),
+            Order::New => return self.told(|script| script.new_image()),
+            Order::Write => return self.told(|script| script.write()),
+            Order::Read => return self.read(),
+            Order::Accept(at, bytes) => {
+                self.back(*at, bytes.as_slice());
+                return self.read();
+            }
+            Order::Same => return Said::Same(self.bytes == self.kept),
+            Order::Buffer => return Said::Bytes(front(&self.buffer, ANSWER_MAX)),
+            Order::Part(at, n) => return Said::Bytes(front(behind(&self.bytes, *at), *n)),
+            Order::Fresh => self.state = QoSScheduler::new(),
+            Order::Length(n) => self.length = *n,
+            Order::Fill => self.bytes = [MARK; SPACE],
+            Order::Keep => self.kept = self.bytes,
+            Order::Back(at, bytes) => self.back(*at, bytes.as_slice()),
+        }
+        Said::Nothing
     }
 
-    // Does an order on the scheduler or on the image; any other leaves both. What is returned is the length of the answer that
-    // stands in the buffer, 0 where there is none.
-    fn done(&mut self, order: &Order) -> Result<usize, Refusal> {
-        let frame = order.bytes.as_slice();
-        let buffer = &mut self.space.buffer;
-        let image = self.space.bytes.get_mut(..self.space.length);
-        let image = image.ok_or(Refusal::NotDone)?;
-        match order.operation {
-            Operation::Read | Operation::Accept => {
-                let read = read_image(image);
-                self.state = read.unwrap_or(QoSScheduler::new());
-                read?;
-            }
-            Operation::Fresh => self.state = QoSScheduler::new(),
-            Operation::Write => {
-                write_image(self.state, image).map_err(|_| Refusal::NotDone)?;
-            }
-            Operation::New => new_image(image)?,
-            Operation::Step => {
-                let room = buffer.get_mut(..order.number);
-                return Ok(step(image, frame, room.ok_or(Refusal::NotDone)?)?);
-            }
-            Operation::Call => {
-                let call = read_frame(frame).ok_or(Refusal::NotDone)?;
-                return Ok(write_answer(call_on_image(image, call)?, buffer));
-            }
-            Operation::Apply => {
-                let call = read_frame(frame).ok_or(Refusal::NotDone)?;
-                let reply = self.state.apply(call);
-                self.state = reply.state;
-                return Ok(write_answer(reply.answer, buffer));
-            }
-            _ => {}
+    // Does something, which gives the length of the answer that it leaves in the buffer, 0 where there is none; and says what
+    // became of the bytes.
+    fn told<F: FnOnce(&mut Script) -> Result<usize, Refusal>>(&mut self, done: F) -> Said<'_>
+        requires { F.IsAlwaysCallable done }
+    {
+        let before = *self;
+        let returned = done(self);
+        let n = returned.unwrap_or(0);
+        Said::Told {
+            rest_kept: is_same(behind(&before.buffer, n), behind(&self.buffer, n)),
+            image_kept: before.bytes == self.bytes,
+            returned: match returned {
+                Ok(n) => n as u64,
+                Err(refusal) => refusal.number(),
+            },
+            answer: front(&self.buffer, n),
         }
+    }
+
+    fn call(&mut self, frame: &[u8]) -> Result<usize, Refusal> {
+        let call = read_frame(frame).ok_or(Refusal::NotDone)?;
+        let answer = call_on_image(self.image()?, call)?;
+        Ok(write_answer(answer, &mut self.buffer))
+    }
+
+    fn apply(&mut self, frame: &[u8]) -> Result<usize, Refusal> {
+        let call = read_frame(frame).ok_or(Refusal::NotDone)?;
+        let reply = self.state.apply(call);
+        self.state = reply.state;
+        Ok(write_answer(reply.answer, &mut self.buffer))
+    }
+
+    fn step(&mut self, room: usize, frame: &[u8]) -> Result<usize, Refusal> {
+        let image = self.bytes.get_mut(..self.length);
+        let room = self.buffer.get_mut(..room);
+        Ok(step(
+            image.ok_or(Refusal::NotDone)?,
+            frame,
+            room.ok_or(Refusal::NotDone)?,
+        )?)
+    }
+
+    fn new_image(&mut self) -> Result<usize, Refusal> {
+        new_image(self.image()?)?;
         Ok(0)
     }
+
+    fn write(&mut self) -> Result<usize, Refusal> {
+        let state = self.state;
+        write_image(state, self.image()?).map_err(|_| Refusal::NotDone)?;
+        Ok(0)
+    }
+
+    // The bytes that are lent as the image.
+    fn image(&mut self) -> Result<&mut [u8], Refusal> {
+        let n = self.length;
+        self.bytes.get_mut(..n).ok_or(Refusal::NotDone)
+    }
+
+    // Where the image is refused, there is a new scheduler.
+    fn read(&mut self) -> Said<'_> {
+        let image = front(&self.bytes, self.length);
+        let read = read_image(image);
+        self.state = read.unwrap_or(QoSScheduler::new());
+        Said::Judged {
+            accepted: accepts_image(image),
+            check: code(check_image(image)),
+            reader: code(read),
+        }
+    }
+
+    // The space is what was kept, with these bytes at a place, as far as the space goes.
+    fn back(&mut self, at: usize, bytes: &[u8]) {
+        self.bytes = self.kept;
+        for (place, byte) in self.bytes.iter_mut().skip(at).zip(bytes) {
+            *place = *byte;
+        }
+    }
+}
+
+// 0 for an image that is accepted, and a refusal's number.
+fn code<T: Drop>(answered: Result<T, HostError>) -> u64 {
+    answered.err().map_or(0, HostError::code)
 }

@@ -11,16 +11,16 @@ returns-then-slot-ge-MAX_TASKS c =
     let a = c.args in
     waiting-past a.image.now a.band a.slot c.if-slot-ge-MAX_TASKS.true
 
-pub returns-then-is_ready : goal.returns-then-is_ready
-returns-then-is_ready c =
+pub returns-then-is_in : goal.returns-then-is_in
+returns-then-is_in c =
     let a = c.args in
     let low = c.if-slot-ge-MAX_TASKS.false in
     let own = c.band_in.ensures ∙ ap (λ (t : TaskControlBlock). t.qos) (record_read a.image.now a.slot low c.record_at-record.ensures) in
-    waiting_of (task (state_at a.image.now) a.slot) (ready_read a.image.now a.slot low c.record_at-record.ensures c.is_ready.ensures)
-    a.band c.if-is_ready.true own (search rules)
+    waiting_of (task (state_at a.image.now) a.slot) (ready_read a.image.now a.slot low c.record_at-record.ensures c.is_in.ensures)
+    a.band c.if-is_in.true own (search rules)
 
-pub returns-else-is_ready : goal.returns-else-is_ready
-returns-else-is_ready c =
+pub returns-else-is_in : goal.returns-else-is_in
+returns-else-is_in c =
     let a = c.args in
     waiting_not (task (state_at a.image.now) a.slot)
-    (ready_read a.image.now a.slot c.if-slot-ge-MAX_TASKS.false c.record_at-record.ensures c.is_ready.ensures) a.band c.if-is_ready.false
+    (ready_read a.image.now a.slot c.if-slot-ge-MAX_TASKS.false c.record_at-record.ensures c.is_in.ensures) a.band c.if-is_in.false

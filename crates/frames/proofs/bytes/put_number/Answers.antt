@@ -7,4 +7,4 @@ use Rattle.frames.proofs.bytes.put_number.Goals as goal
 pub returns : goal.returns
 returns c =
     let a = c.args in
-    c.put_bytes.ensures ∙ ap (sets a.bytes.now a.at) (last_bytes_stored a.width a.number c.requires.width_bound c.to_be_bytes.ensures)
+    c.put_bytes.ensures ∙ ap (sets a.bytes.now a.at) (last_bytes_stored a.width a.number c.requires c.to_be_bytes.ensures)

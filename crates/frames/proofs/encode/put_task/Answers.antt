@@ -1,5 +1,6 @@
 -- `put_task` meets its contract: each arm puts its kind. Assumes nothing.
-use mathlib.Core.Path.{refl, ap}
+use mathlib.Core.Path.{refl, ap, ◌∙◌}
+use lib.Seq.{sets}
 use Rattle.std.specs.Prelude.{None}
 use Rattle.rules.specs.declared.answer.Value.TheVariants as value
 use Rattle.frames.specs.Private.{value_bytes}
@@ -13,4 +14,4 @@ returns-in-None c =
 
 pub returns-in-Some : goal.returns-in-Some
 returns-in-Some c =
-    value_as (ap value.Task c.in-Some.is) (task-put _ _ c.put_number.ensures c.put_record.ensures)
+    value_as (ap value.Task c.in-Some.is) (task-put _ _ c.put_number.ensures (c.put_bytes.ensures ∙ ap (sets _ 4) c.record_bytes.ensures))

@@ -2,17 +2,9 @@
 use mathlib.Core.Path.{sym, ◌∙◌}
 use borrow.Author.Rules.{rules}
 use Rattle.frames.proofs.Cuts.{line-within}
-use Rattle.frames.proofs.Progress.{begin, less, stops_open, stops_full, turn}
+use Rattle.frames.proofs.Progress.{less, stops_open, stops_full, turn}
 use Rattle.frames.proofs.Tellings.{makes_refusal, makes_reply}
 use Rattle.frames.proofs.stream.Stream.feed.Goals as goal
-
-pub loop-held-init : goal.loop-held-init
-loop-held-init c = begin _ _ _ _
-
-pub overflow_add-end : goal.overflow_add-end
-overflow_add-end c =
-    let within = line-within c.args.block.now c.loop-held.used c.next_line-line.ensures in
-    search rules
 
 -- the line is not at its end
 pub returns-then-not-is_ended : goal.returns-then-not-is_ended
@@ -22,10 +14,10 @@ returns-then-not-is_ended c =
 
 -- ---- a line that is no frame
 
-pub returns-in_default-put_no_frame : goal.returns-in_default-put_no_frame
-returns-in_default-put_no_frame c =
+pub returns-in_default-put_line : goal.returns-in_default-put_line
+returns-in_default-put_line c =
     stops_full c.loop-held.invariant c.next_line-line.ensures (sym c.is_ended.ensures ∙ c.if-not-is_ended.false)
-    (makes_refusal (sym c.call_with.ensures ∙ c.in_default.is)) c.in_default-put_no_frame.ensures c.stopped-in_default-put_no_frame.ensures
+    (makes_refusal (sym c.call_with.ensures ∙ c.in_default.is)) c.in_default-put_line.ensures c.stopped-in_default-put_line.ensures
 
 pub past_newline-used-requires : goal.past_newline-used-requires
 past_newline-used-requires c =
@@ -40,7 +32,7 @@ loop-held-smaller-in_default c =
 pub loop-held-preserved-in_default : goal.loop-held-preserved-in_default
 loop-held-preserved-in_default c =
     turn c.loop-held.invariant c.next_line-line.ensures (sym c.is_ended.ensures ∙ c.if-not-is_ended.false)
-    (makes_refusal (sym c.call_with.ensures ∙ c.in_default.is)) c.past_newline-used.ensures c.in-Some-put_no_frame.ensures c.new-held.ensures
+    (makes_refusal (sym c.call_with.ensures ∙ c.in_default.is)) c.past_newline-used.ensures c.in-Some-put_line.ensures c.new-held.ensures
 
 -- ---- a call
 

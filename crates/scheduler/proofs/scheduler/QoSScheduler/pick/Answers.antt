@@ -25,15 +25,15 @@ overflow_cast-self c = omega (arith, first_low c.loop-band.self c.args.core c.re
 pub invariant_of-self-clause-accepted : goal.invariant_of-self-clause-accepted
 invariant_of-self-clause-accepted c =
     pick_kept c.loop-band.self c.args.core c.requires
-    (pick_comes c.loop-band.self c.args.core c.requires c.in-Some.ensures c.code-at.ensures.is (search (rules, band_at))
-    c.loop-band.invariant.before c.index-self-at.result _ (search rules) _ c.picked.ensures)
+    (pick_comes c.loop-band.self c.args.core c.requires c.in-Some.ensures c.code.ensures.is (search (rules, band_at))
+    c.loop-band.invariant.before c.index-queues-code.result _ (search rules) _ c.picked.ensures)
 
 pub returns-in-Some : goal.returns-in-Some
 unfolding abs
 returns-in-Some c =
-    pick_gives c.loop-band.self c.args.core c.requires c.in-Some.ensures c.code-at.ensures.is (search (rules, band_at))
-    c.loop-band.invariant.before c.index-self-at.result _ (search rules) _ c.picked.ensures
-    c.args.form c.args.previous c.loop-band.invariant.same c.pick_answer.ensures refl
+    pick_gives c.loop-band.self c.args.core c.requires c.in-Some.ensures c.code.ensures.is (search (rules, band_at))
+    c.loop-band.invariant.before c.index-queues-code.result _ (search rules) _ c.picked.ensures
+    c.args.form c.loop-band.invariant.same c.target.ensures c.answer.ensures refl
 
 pub invariant_of-self-2-clause-accepted : goal.invariant_of-self-2-clause-accepted
 invariant_of-self-2-clause-accepted c =
@@ -43,7 +43,7 @@ invariant_of-self-2-clause-accepted c =
 pub returns : goal.returns
 unfolding abs
 returns c =
-    gives-chosen c.args.form c.args.previous 0
+    gives-chosen c.args.form
     (ap (λ (s : QoSScheduler). rule_p c.args.core (abs s)) (sym c.loop-band.invariant.same)
     ∙ pick_none c.loop-band.self c.args.core c.requires c.loop-band.invariant.before (omega arith))
-    tt c.choice_answer.ensures refl
+    refl c.answer-2.ensures refl

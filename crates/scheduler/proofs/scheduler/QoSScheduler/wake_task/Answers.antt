@@ -1,7 +1,7 @@
 -- `wake_task` meets its contract: the laws of `OnSlots` say what the wake comes to on each way. Assumes nothing.
 use Rattle.rules.specs.declared.call.Call.TheVariants.{Wake}
 use Rattle.scheduler.specs.Scheduler.{abs}
-use Rattle.scheduler.proofs.OnSlots.{held_is, wake_missing, wake_awake, wake_free, wake_held}
+use Rattle.scheduler.proofs.OnSlots.{held_is, wake_missing, wake_awake, wake_as_enqueue, wake_held}
 use Rattle.scheduler.proofs.Promises.{kept, meets_as, meets_refused, meets_told}
 use Rattle.scheduler.proofs.scheduler.QoSScheduler.wake_task.Goals as goal
 
@@ -14,7 +14,7 @@ returns-then-ne c = meets_refused c.refused-then-ne.ensures (wake_awake _ _ c.in
 pub returns-then-is_none : goal.returns-then-is_none
 returns-then-is_none c =
     meets_as c.enqueue_ready.ensures
-    (wake_free (abs c.args.self) c.args.slot.0 c.in-Some.ensures c.if-ne.ensures
+    (wake_as_enqueue (abs c.args.self) c.args.slot.0 c.in-Some.ensures c.if-ne.ensures
     (held_is (abs c.args.self) c.args.slot.0 c.core_holding.ensures c.if-is_none.ensures))
 
 pub invariant_of-self-clause-accepted : goal.invariant_of-self-clause-accepted
