@@ -51,10 +51,10 @@ fn main(rt: HostRuntime) {
 }
 
 // Feeds a block, in as many goes as its answers need, and writes what each gives. Only a read that found nothing is the end of
-// the input, so the last block is empty.
+// the input, so the last block is empty; `last` goes beside it, as in what is promised of feedings.
 fn answer_block(
     rt: &impl Print,
-    stream: Stream,
+    mut stream: Stream,
     block: &[u8],
     last: bool,
     out: &mut [u8],
@@ -63,8 +63,7 @@ fn answer_block(
     requires room { longest_answer ≤ length out.old }
     ensures { FeedsBlock last stream block.now result }
 {
-    let mut stream = stream;
-    let mut used = 0;
+    let mut used = 0; // by hand, since what is promised is of the block as it came
     loop {
         let fed = stream.feed(&block[used..], last, out);
         stream = fed.stream;

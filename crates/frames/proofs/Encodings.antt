@@ -1,5 +1,4 @@
--- What the parts of an answer leave in the buffer, put together: values by their kind, a record from its three parts, an answer from status, pick
--- and value.
+-- What the parts of an answer leave in the buffer, put together: values by their kind, and an answer from status, pick and value.
 -- Assumes nothing.
 use mathlib.Core.Path.{◌≡◌, refl, sym, ap, ◌∙◌}
 use mathlib.Core.Bool.{Bool, true, false}

@@ -8,7 +8,8 @@ use crate::bytes::number;
 use records::{QoSClass, Slot, Tid};
 use scheduler::Call;
 
-// The length of each call's frame, from 00 to 10.
+// The length of each call's frame, from 00 to 10. A table beside `call_in`, so that a frame of another length is refused before an
+// argument is read.
 const FRAME_LENGTHS: [usize; 17] = [30, 17, 9, 9, 9, 9, 9, 13, 9, 9, 13, 17, 5, 9, 9, 1, 9];
 
 // The call of a frame of raw bytes, of any length and contents. None is refusal 9: for a bad digit, an unknown call, a wrong
@@ -24,7 +25,8 @@ pub fn read_frame(frame: &[u8]) -> Option<Call>
     call_in(frame, call)
 }
 
-// The arguments of a call's frame, read as that call.
+// The arguments of a call's frame, read as that call. A match over document 01's numbers shows each beside its call, those too that
+// have the same arguments.
 fn call_in(frame: &[u8], call: u8) -> Option<Call>
     ensures { result ≡ get_or (calls_in frame.now) call None }
 {

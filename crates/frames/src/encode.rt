@@ -1,4 +1,4 @@
-// Answers: the bytes of an answer, in a lent buffer.
+// Answers: document 01's bytes of an answer, in a lent buffer. Done, a refusal and none are numbers there.
 ghost use Rattle.std.specs.Prelude.{◌≡◌, [], ◌∷◌, ◌+◌, ◌^◌, ◌<◌, Some};
 ghost use Rattle.std.proofs.lemmas.List.Edits.{sets};
 ghost use Rattle.frames.specs.Answer.{answer_bytes, record_bytes};
@@ -26,7 +26,7 @@ const SWITCH_BYTES: usize = 11;
 // The longest answer: status, pick, 01 and a record.
 pub const ANSWER_MAX: usize = VALUE_AT + TASK_BYTES;
 
-// What stands for no slot, no band and no core in the bytes that a host is given: a byte, since C has no Option.
+// What stands for no slot, no band and no core in an answer: document 01's ff.
 const NONE: u64 = 255;
 
 // The answer's bytes at the front of a buffer, and how many they are; bytes behind them stay. A byte that has no place in
@@ -127,15 +127,15 @@ fn put_task(task: Option<TaskControlBlock>, out: &mut [u8]) -> usize
         None => put_byte(0, out),
         Some(record) => {
             put_number(out, VALUE_AT, 1, 1);
-            put_bytes(&record_bytes(record), out, VALUE_AT + 1);
+            put_bytes(&record_bytes(&record), out, VALUE_AT + 1);
             TASK_BYTES
         }
     }
 }
 
 // A record's 47 bytes.
-pub(crate) fn record_bytes(task: TaskControlBlock) -> [u8; RECORD_BYTES]
-    ensures { result ≡ record_bytes task }
+pub(crate) fn record_bytes(task: &TaskControlBlock) -> [u8; RECORD_BYTES]
+    ensures { result ≡ record_bytes task.now }
 {
     let mut bytes = [0; RECORD_BYTES];
     put_number(&mut bytes, 0, 4, u64::from(task.tid.0));

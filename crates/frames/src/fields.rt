@@ -48,8 +48,8 @@ pub(crate) fn record_fits(bytes: &[u8]) -> bool
 fn codes_fit(bytes: &[u8]) -> bool
     ensures { result ≡ codes_fit bytes.now }
 {
-    number(bytes, BAND_AT, 1) < 3
-        && number(bytes, STATE_AT, 1) < 4
+    QoSClass::try_from(number(bytes, BAND_AT, 1) as u8).is_ok()
+        && ThreadState::try_from(number(bytes, STATE_AT, 1) as u8).is_ok()
         && number(bytes, IN_USE_AT, 1) < 2
 }
 
@@ -67,7 +67,8 @@ pub(crate) fn is_in(bytes: &[u8], state: ThreadState) -> bool
     state_in(bytes) == state
 }
 
-// A byte that is no code reads as Terminated.
+// A byte that is no code reads as Terminated. `band_in` is alike: one function over both would take the type, the place and what
+// stands for no code.
 fn state_in(bytes: &[u8]) -> ThreadState
     ensures { result ≡ (record_in bytes.now).state }
 {

@@ -11,8 +11,8 @@ pub(crate) fn is_hex(line: &[u8]) -> bool
     line.len() % 2 == 0 && line.iter().all(|d| is_digit(*d))
 }
 
-// The bytes that a line's digits stand for, stored at the front of a buffer that has room for them. By index, since a chunk of two
-// digits would be looked into by index too.
+// The bytes that a line's digits stand for, stored at the front of a buffer that has room for them: a byte's digits stand at twice
+// its place.
 pub(crate) fn from_hex(line: &[u8], bytes: &mut [u8])
     requires { length line.now ≤ 2 * length bytes.old }
     ensures { bytes.new ≡ sets bytes.old 0 (from_hex line.now) }
@@ -33,13 +33,14 @@ pub(crate) fn put_hex(bytes: &[u8], text: &mut [u8], at: usize)
     }
 }
 
+// A test of its own, since a line is no frame before all of it is digits.
 fn is_digit(d: u8) -> bool
     ensures { result ≡ is_digit d }
 {
     matches!(d, b'0'..=b'9' | b'a'..=b'f')
 }
 
-// What a digit stands for, and 0 for a byte that is none. `char::to_digit` would take A to F too.
+// What a digit stands for, and 0 for a byte that is none, which `is_hex` keeps out. `char::to_digit` would take A to F too.
 fn digit_value(d: u8) -> u8
     ensures { IsDigitValue d result }
 {

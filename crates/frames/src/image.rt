@@ -65,7 +65,7 @@ fn put_slot(tasks: &[TaskControlBlock; MAX_TASKS], slot: Option<Slot>, image: &m
     if let Some(Slot(slot)) = slot
         && slot < MAX_TASKS
     {
-        put_bytes(&record_bytes(tasks[slot]), image, RECORD_BYTES * slot);
+        put_bytes(&record_bytes(&tasks[slot]), image, RECORD_BYTES * slot);
     }
 }
 
@@ -74,11 +74,12 @@ fn put_records(tasks: &[TaskControlBlock; MAX_TASKS], out: &mut [u8])
     ensures { out.new ≡ sets out.old 0 (records_bytes tasks.now) }
 {
     for (slot, task) in tasks.iter().enumerate() {
-        put_bytes(&record_bytes(*task), out, RECORD_BYTES * slot);
+        put_bytes(&record_bytes(task), out, RECORD_BYTES * slot);
     }
 }
 
-// The three queues, one behind the other.
+// The three queues, one behind the other. Written out: a state has its queues as three parts and not as a list, so a loop would have
+// to say which of them it has put.
 fn put_queues(queues: &[BandQueue; BAND_COUNT], out: &mut [u8])
     ensures { out.new ≡ sets out.old queues_place (queues_bytes (queues_of queues.now)) }
 {

@@ -40,5 +40,6 @@ pub(crate) const MICROS_AT: usize = HOLDERS_AT + MAX_CPUS;
 // How many bytes an image has.
 pub const IMAGE_BYTES: usize = MICROS_AT + 8;
 
-// So many bytes, be they an image that is accepted or not.
+// So many bytes, be they an image that is accepted or not. Three functions ask for an accepted one by a clause: a type of its own
+// would hold bytes that are lent for change, and be opened at each store.
 pub(crate) type Image = [u8; IMAGE_BYTES];

@@ -20,7 +20,9 @@
 //
 // Nothing is presumed of any bytes: what is no frame is refused with 9, and what is no image with 7 or 8. Each function
 // promises its whole result and the whole contents of the buffers that it is lent, as equal to definitions on lists of
-// bytes in specs/; proofs/ has the laws of those definitions.
+// bytes in specs/; proofs/ has the laws of those definitions. There is no heap: what is made goes into a lent buffer, or into an
+// array of the longest length, and how many of its bytes count is told beside it. What is promised of a buffer is of all of it, so
+// that a place in it is handed on beside it, and not the part from there on.
 #![tactic(auto)]
 
 mod accept;

@@ -21,7 +21,7 @@ pub(crate) const LINE_MAX: usize = 2 * FRAME_MAX;
 // The longest answer as a line of text, with its newline.
 pub const ANSWER_LINE_MAX: usize = 2 * ANSWER_MAX + 1;
 
-// The answer to a line that is no frame: refusal 9, and no pick.
+// The answer to a line that is no frame, in document 01's bytes: refusal 9, and no pick. A constant may call no function.
 pub(crate) const NO_FRAME: [u8; VALUE_AT] = [9, 255, 255];
 
 // The line that begins at `at`, as that part of the input: up to the next newline, which is not in it, or to the end. At

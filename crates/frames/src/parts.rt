@@ -1,4 +1,5 @@
-// The parts of an image: a slot's record, a band's queue, and the holders.
+// The parts of an image: a slot's record, a band's queue, and the holders. A band goes beside the image, which is looked into for
+// records too.
 ghost use Rattle.std.specs.Prelude.{◌≡◌, ◌<◌, drop};
 ghost use Rattle.frames.specs.Image.{record_at, queue_at, length_byte, state_at};
 

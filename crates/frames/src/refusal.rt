@@ -14,7 +14,7 @@ pub enum HostError {
 }
 
 impl HostError {
-    // The refusal's number.
+    // The refusal's number, as wide as what the entries for C return.
     pub fn code(self) -> u64
         ensures { result ≡ host_number self }
     {

@@ -28,7 +28,7 @@ pub(crate) fn named_slot(call: Call, image: &Image) -> Option<Slot>
     }
 }
 
-// A core's holder; a core of 64 and above has none.
+// A core's holder; a core of 64 and above has none. The scheduler's own reader is private, and public it would be no shorter.
 fn holder_in(image: &Image, core: usize) -> Option<Slot>
     ensures { slot_number result ≡ holder (state_at image.now) core }
 {

@@ -4,7 +4,7 @@ ghost use Rattle.std.specs.Prelude.{◌≤◌};
 use crate::show::show_made;
 use frames::new_image;
 use samples::Part::{Holders, Micros, Queue, Record};
-use samples::{Image, MARK, Part, Parts, are_marks};
+use samples::{IMAGE, Image, MARK, Part, Parts, are_marks};
 use std::io;
 
 const NEW_PARTS: [Part; 7] = [
@@ -21,13 +21,13 @@ const NEW_PARTS: [Part; 7] = [
 pub(crate) fn lengths_of_new(rt: &impl Print) -> io::Result<()> {
     made_over(rt, 0, "new image over no bytes")?;
     made_over(rt, 3274, "new image over 3274 bytes")?;
-    made_over(rt, 3275, "new image over 3275 bytes")?;
+    made_over(rt, IMAGE, "new image over 3275 bytes")?;
     made_over(rt, 3276, "new image over 3276 bytes")
 }
 
 // "New: all records empty, queues empty, no holders, 0."
 pub(crate) fn first_image(rt: &impl Print) -> io::Result<Image> {
-    let mut image = [MARK; 3275];
+    let mut image = [MARK; IMAGE];
     // not refused, since the length is an image's
     let _ = new_image(&mut image);
     print!(rt; "{}", Parts(&image, &NEW_PARTS))?;
@@ -45,6 +45,6 @@ fn made_over(rt: &impl Print, n: usize, what: &str) -> io::Result<()>
         what,
         returned,
         are_marks(&bytes),
-        are_marks(&bytes[3275..]),
+        are_marks(&bytes[IMAGE..]),
     )
 }

@@ -3,7 +3,7 @@ ghost use Rattle.std.specs.Prelude.{◌≤◌};
 
 use crate::show::show_step;
 use frames::{new_image, step};
-use samples::{Image, MARK, Part, Parts};
+use samples::{IMAGE, Image, MARK, Part, Parts};
 use std::io;
 
 // A frame, by what is said of it.
@@ -55,13 +55,14 @@ pub(crate) fn called_in(
     Ok(after)
 }
 
-// A frame on the first `n` bytes of a new scheduler's image with one byte behind it, shown with all of them.
+// A frame on the first `n` bytes of a new scheduler's image with one byte behind it, shown with all of them. Not by
+// `called_in`, whose image has a fixed length.
 pub(crate) fn called_on(rt: &impl Print, n: usize, what: &str, frame: &[u8]) -> io::Result<()>
     requires { n ≤ 3276 }
 {
     let mut bytes = [MARK; 3276];
     // not refused, since the length is an image's
-    let _ = new_image(&mut bytes[..3275]);
+    let _ = new_image(&mut bytes[..IMAGE]);
     let before = bytes;
     let mut buffer = [MARK; 60];
     let returned = step(&mut bytes[..n], frame, &mut buffer);
@@ -74,7 +75,7 @@ pub(crate) fn step_on(image: &mut Image, frame: &[u8]) {
     let _ = step(image, frame, &mut buffer);
 }
 
-// Create with context 0x0102030405060708, cr3 0x1000 and rsp0 0x2000.
+// Create with context 0x0102030405060708, cr3 0x1000 and rsp0 0x2000. Tid and band are bytes of the frame, as a host passes them.
 pub(crate) fn create_frame(tid: u8, band: u8) -> [u8; 30] {
     let mut frame =
         *b"\x00\0\0\0\x00\x00\x01\x02\x03\x04\x05\x06\x07\x08\0\0\0\0\0\0\x10\0\0\0\0\0\0\0\x20\0";

@@ -30,7 +30,8 @@ pub(crate) fn calls_on_images(rt: &impl Print, image: Image) -> io::Result<()> {
     ticked(rt, what, refused, "the image as it was", refused)
 }
 
-// What the check and the reader say of bytes, and whether the scheduler that was read, or a new one, has the image `expected`.
+// What the check and the reader say of bytes, and whether the scheduler that was read, or a new one, has the image `expected`. Each
+// call of it, and of `ticked`, stands for itself: a list of the arguments would need the images beside it.
 fn read(
     rt: &impl Print,
     what: &str,

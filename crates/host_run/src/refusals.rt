@@ -2,7 +2,7 @@
 // one, or refused later, so that the number says which check came first.
 use crate::passing::{Frame, ROOM, called_each, called_in, called_on, create_frame, step_on};
 use samples::Part::{Holders, Queue, Record};
-use samples::{Image, Part, Parts};
+use samples::{IMAGE, Image, Part, Parts};
 use std::io;
 
 // A tick of 1 on core 5.
@@ -12,7 +12,7 @@ const TICK: &[u8] = b"\x07\0\0\0\0\0\0\0\x05\0\0\0\x01";
 pub(crate) fn bad_lengths(rt: &impl Print, image: Image) -> io::Result<()> {
     called_on(rt, 0, "an image of 0 bytes", TICK)?;
     called_on(rt, 3274, "an image of 3274 bytes", TICK)?;
-    called_on(rt, 3275, "an image of 3275 bytes", TICK)?;
+    called_on(rt, IMAGE, "an image of 3275 bytes", TICK)?;
     called_on(rt, 3276, "an image of 3276 bytes", TICK)?;
     for room in [0, 50, 51] {
         called_in(rt, room, "tick", image, TICK)?;

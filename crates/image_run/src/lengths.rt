@@ -1,14 +1,12 @@
 // "The image (added) is 3,275 bytes"
 use crate::show::{show_accepted, show_written};
-use samples::{Image, MARK, are_marks};
+use samples::{IMAGE, Image, MARK, are_marks};
 use scheduler::QoSScheduler;
 use std::io;
 use text::{Hex, behind, front, yes_or_no};
 
-// How many bytes an image has, and one more.
-const IMAGE: usize = 3275;
-
-const LONG: usize = 3276;
+// One byte more than an image has.
+const LONG: usize = IMAGE + 1;
 
 pub(crate) fn lengths(rt: &impl Print, image: &Image) -> io::Result<()> {
     show_accepted(rt, "no bytes", &[])?;

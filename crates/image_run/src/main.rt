@@ -9,7 +9,7 @@ mod show;
 use cases::{BUSY_CASES, FULL_CASES, tried};
 use lengths::lengths;
 use samples::Part::{Holders, Micros, Queue, Record};
-use samples::{MARK, Part, Parts, busy, full};
+use samples::{IMAGE, MARK, Part, Parts, busy, full};
 use scheduler::QoSScheduler;
 use show::{show_accepted, show_written};
 use std::io;
@@ -32,7 +32,7 @@ const BUSY_PARTS: [Part; 12] = [
 ];
 
 fn main(rt: HostRuntime) -> io::Result<()> {
-    let mut image = [MARK; 3275];
+    let mut image = [MARK; IMAGE];
     show_written(&rt, "new is", QoSScheduler::new(), &mut image)?;
     show_accepted(&rt, "new", &image)?;
     print!(rt; "{}", Parts(&image, &NEW_PARTS))?;

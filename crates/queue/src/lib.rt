@@ -9,7 +9,8 @@ ghost use Rattle.std.specs.Prelude.{◌≡◌, ◌≤◌, ◌<◌, length, []};
 
 use records::{MAX_TASKS, SchedError, Slot};
 
-// The entries stand in `len` places of the ring from `head` on, going round its end. A VecDeque would need the heap.
+// The entries stand in `len` places of the ring from `head` on, going round its end. A VecDeque would need the heap. Where the n-th
+// stands is spelled out at each use, (head + n) % 64: a function for it would have to ask for an n that can be added.
 #[derive(Clone, Copy)]
 pub struct BandQueue {
     ring: [u8; MAX_TASKS],
@@ -121,7 +122,8 @@ impl BandQueue {
     }
 
     // What picking does: the entry at a place leaves, and those before it go to the tail in their order. Past the tail
-    // nothing leaves and nothing moves. `head` goes round the ring with the front, as the range's own number does not.
+    // nothing leaves and nothing moves. `head` is the front as it goes round the ring; by the range's own number front and
+    // tail would be a sum of three each.
     pub fn take_at(&mut self, place: usize) -> Option<Slot>
         ensures { Take self.old place result self.new }
     {

@@ -19,7 +19,7 @@ pub enum SchedError {
 }
 
 impl SchedError {
-    // The refusal's number in document 01's answers.
+    // The refusal's number in document 01's answers. Bands and states have such a line each; a trait would be no shorter.
     pub fn code(self) -> u8
         ensures { result ≡ error_code self }
     {

@@ -4,7 +4,7 @@ ghost use Rattle.std.specs.List.{list_all};
 ghost use Rattle.scheduler.specs.Scheduler.{abs};
 ghost use Rattle.frames.specs.Image.{image_of};
 
-use crate::layout::Image;
+use crate::layout::{IMAGE, Image};
 use frames::write_image;
 use scheduler::QoSScheduler;
 
@@ -22,8 +22,7 @@ pub fn are_marks(bytes: &[u8]) -> bool
 pub fn image_of(state: QoSScheduler) -> Image
     ensures { result ≡ image_of (abs state) }
 {
-    let mut image = [MARK; 3275];
-    // not refused, since the length is an image's
-    let _ = write_image(state, &mut image);
+    let mut image = [MARK; IMAGE];
+    write_image(state, &mut image).unwrap();
     image
 }

@@ -7,8 +7,11 @@ ghost use Rattle.samples.specs.Layout.{place, width, name};
 use std::fmt;
 use text::{behind, front};
 
-// As many bytes as an image has.
-pub type Image = [u8; 3275];
+// How many bytes an image has.
+pub const IMAGE: usize = 3275;
+
+// So many bytes.
+pub type Image = [u8; IMAGE];
 
 // A slot's record, the queue of the band with this code, the holders, or the system microseconds. Any number will do: of a slot
 // from 64 and a band from 3 on it is what stands where theirs would.

@@ -20,6 +20,6 @@ mod states;
 pub use answer::Written;
 pub use bytes::{MARK, are_marks, image_of};
 pub use calls::{BUSY, TASK, create};
-pub use layout::{Image, Part};
+pub use layout::{IMAGE, Image, Part};
 pub use lines::Parts;
 pub use states::{after, busy, filled, filled_by, full};

@@ -2,11 +2,11 @@
 -- `read`. What is handed on to a pick is accepted. Assumes nothing.
 use Rattle.std.proofs.Common.{◌≡◌, ℕ, ◌+◌, ◌%◌, ◌^◌, ◌<◌, ◌≤◌, Bool, true, false, cond, not, leb, List, length, get_or, set, sym, refl, ap, ◌∙◌, subst, arith, get_or-set_same, set-set, le-leb}
 use mathlib.Core.Bool.{or-true}
-use borrow.Author.Tests.{leb-true, lt-leb, not-false}
+use borrow.Author.Tests.{leb-true, lt-leb, lt-ltb, not-false}
 use denote.Enum.Bare.{sameb}
 use mir.Val.{Fits}
 use mir.Syntax.{w32, w64}
-use Rattle.std.specs.Prelude.{Option, None, Some, Result}
+use Rattle.std.specs.Prelude.{Option, None, Some, Result, is_ok, IsOk}
 use Rattle.records.specs.contracts.state.ThreadState.{the_type}
 use Rattle.records.specs.declared.band.QoSClass.{QoSClass}
 use Rattle.records.specs.declared.band.QoSClass.TheVariants.{UserInteractive, RealTimeIO, Background}
@@ -37,7 +37,7 @@ use Rattle.rules.specs.Waking.{enqueued}
 use Rattle.rules.specs.declared.answer.Answer.{Answer}
 use Rattle.rules.specs.declared.call.Call.TheVariants.{Tick, Plan}
 use Rattle.rules.proofs.Accepts.{accepts_complete}
-use Rattle.rules.proofs.Calls.{call-accepted}
+use Rattle.rules.proofs.Calls.{room_in_queue, call-accepted}
 use Rattle.rules.proofs.Effects.{idle_in, holder_is, clears, yields, slice_ends_lem, enqueue_done}
 use Rattle.rules.proofs.Invariant.{no_holder, used_in_table}
 use Rattle.rules.proofs.Moves.{Harmless, time}
@@ -47,7 +47,7 @@ use Rattle.scheduler.specs.Private.{Gives, answer_in, who_runs}
 use Rattle.scheduler.specs.declared.scheduler.Reply.{Reply}
 use Rattle.scheduler.specs.Scheduler.{abs, Meets}
 use Rattle.scheduler.specs.Stored.{state_of}
-use Rattle.scheduler.proofs.Arrays.{valid, known, record_at_lem, push_queues}
+use Rattle.scheduler.proofs.Arrays.{valid, known, record_at_lem, push_answer, push_queues}
 use Rattle.scheduler.proofs.OnSlots.{so, so_not}
 use Rattle.scheduler.proofs.Promises.{unharmed, meets_given, gives-chosen}
 
@@ -103,15 +103,14 @@ pub tick_told : {s : QoSScheduler} {core elapsed : ℕ} {r : Reply} → Gives (a
 unfolding tick
 tick_told g = meets_given g refl
 
-pub plan_told : {s : QoSScheduler} {core elapsed : ℕ} {previous : Option Slot} {r : Reply} → previous ≡ holder_of (abs s) core →
-    Gives (answer_plan previous (ticked core elapsed (abs s))) r → Meets (Plan core elapsed) s r
+pub plan_told : {s : QoSScheduler} {core elapsed : ℕ} {r : Reply} → Gives (answer_plan (holder_of (abs s) core) (ticked core elapsed (abs s))) r →
+    Meets (Plan core elapsed) s r
 unfolding planned
-plan_told {s} {core} {elapsed} is g =
+plan_told {s} {core} {elapsed} g =
     meets_given g (split (λ (b : Bool). cond b (done (value.Plan None) (abs s)) (answer_plan (holder_of (abs s) core) (ticked core elapsed (abs s)))
     ≡ answer_plan (holder_of (abs s) core) (ticked core elapsed (abs s))) (leb 64 core)
     (λ past. rw (none_held s core (leb-true 64 core past), tick_past s core (leb-true 64 core past) elapsed) refl)
-    (λ _. refl)
-    ∙ ap (λ (p : Option Slot). answer_plan p (ticked core elapsed (abs s))) (sym is))
+    (λ _. refl))
 
 -- ---- a core below 64
 
@@ -288,6 +287,17 @@ module _ (s : QoSScheduler) (core : ℕ) (low : core < 64) where
               pub tick_spared : ticked core elapsed (abs s) ≡ rule_p core (state_of (set p.0 h.0 u) p.1.0 p.1.1.0 p.1.1.1.0)
               tick_spared = left_comes spared
 
+            -- there is room for any other
+            pub sent_back_pushed : false ≡ sameb the_type read.state Ready → {n : ℕ} → IsBandCode read.qos n → (dq : BandQueue) →
+                {a : Result Unit SchedError} {q : BandQueue} → Push (get_or p.1.0 n dq) h a q → IsOk a
+            unfolding abs
+            sent_back_pushed runs {n} code dq {a} {q} push =
+                subst (λ (r : Parts). Push (get_or r.1.0 n dq) h a q → IsOk a) (sym o.parts)
+                (λ pushes.
+                ap is_ok (push_answer s read.qos code.is dq pushes)
+                ∙ rw (lt-ltb h.0 64 holder_low, room_in_queue (abs s) (valid s) read.qos h.0 holder_low (rw read_is (so read.state Ready runs))) refl)
+                push
+
             -- any other goes to the tail of its band
             module _ (runs : false ≡ sameb the_type read.state Ready) {n : ℕ} (code : IsBandCode read.qos n) (dq : BandQueue)
                 {a : Result Unit SchedError} {q : BandQueue} (push : Push (get_or p.1.0 n dq) h a q)
@@ -325,6 +335,13 @@ module _ (s : QoSScheduler) (core : ℕ) (low : core < 64) where
         yields-to : yield core (abs s) ≡ answer_plan (Some h) (rule_p core (cleared core (enqueued h.0 (abs s))))
         unfolding yield
         yields-to = rw (lt-leb 64 core low, sym some, runs, enqueue_done (abs s) (known s) h.0 holder_low may.used idle) refl
+
+        -- there is room for it
+        pub yield_pushed : {n : ℕ} → IsBandCode read.qos n → (dq : BandQueue) {a : Result Unit SchedError} {q : BandQueue} →
+            Push (get_or s.queues n dq) h a q → IsOk a
+        yield_pushed code dq push =
+            ap is_ok (push_answer s read.qos code.is dq push)
+            ∙ rw (lt-ltb h.0 64 holder_low, room_in_queue (abs s) (valid s) read.qos h.0 holder_low idle) refl
 
         module _ {n : ℕ} (code : IsBandCode read.qos n) (dq : BandQueue) {a : Result Unit SchedError} {q : BandQueue}
             (push : Push (get_or s.queues n dq) h a q) {u : TaskControlBlock} (u-is : u ≡ with_state read Ready) where

@@ -88,9 +88,9 @@ gives-chosen f {c = c} comes to answer state =
       state_is = state ∙ state_so f c;
     })
 
--- the same choice, by another way to it
-pub gives_as : (f : Form) {c d : Chosen} {r : Reply} → c ≡ d → Gives (answer_in f c) r → Gives (answer_in f d) r
-gives_as f {r = r} c-is g = subst (λ (c : Chosen). Gives (answer_in f c) r) c-is g
+-- the same choice in the same form, by other ways to both
+pub gives_as : {f g : Form} {c d : Chosen} {r : Reply} → f ≡ g → c ≡ d → Gives (answer_in f c) r → Gives (answer_in g d) r
+gives_as {r = r} f-is c-is g = subst (λ (o : Outcome). Gives o r) (λ i. answer_in (f-is i) (c-is i)) g
 
 -- nothing was done
 pub gives_told : (f : Form) (s : QoSScheduler) {c : Chosen} {t : QoSScheduler} {x : Value} {r : Reply} → c ≡ no_choice (abs s) →

@@ -1,5 +1,5 @@
 -- What the private functions promise, and what their proofs cite of it. Nobody above this crate has to read it.
-use Rattle.std.specs.Prelude.{◌≡◌, ◌<◌, ℕ, false, cond, List, length, get_or, Option, None, Some, MatchOption}
+use Rattle.std.specs.Prelude.{◌≡◌, ◌<◌, ℕ, Bool, true, false, cond, List, length, get_or, Option, None, Some, MatchOption}
 use Rattle.records.specs.declared.band.QoSClass.{QoSClass}
 use Rattle.records.specs.declared.error.SchedError.{SchedError}
 use Rattle.records.specs.declared.ids.Slot.{Slot}
@@ -57,6 +57,11 @@ FirstPermitted s core band o = MatchOption o (waits_in s core band ≡ false) (I
 abbrev pub answer_in : Form → Chosen → Outcome
 answer_in form.Slot c = answer_slot c
 answer_in (form.Plan previous) c = answer_plan previous c
+
+-- a plan where one is asked for
+abbrev pub form_of : Bool → Option Slot → Form
+form_of true previous = form.Plan previous
+form_of false previous = form.Slot
 
 -- the slot of who is to run
 abbrev pub slot_of : ContextSwitchTarget → Option Slot

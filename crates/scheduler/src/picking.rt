@@ -4,15 +4,15 @@ ghost use Rattle.std.specs.Prelude.{◌≡◌, ◌<◌};
 ghost use Rattle.rules.specs.Outcome.{answered};
 ghost use Rattle.rules.specs.Picking.{rule_p, waits_in};
 ghost use Rattle.scheduler.specs.Scheduler.{Meets, abs};
-ghost use Rattle.scheduler.specs.Private.{Gives, FirstPermitted, answer_in, who_runs};
+ghost use Rattle.scheduler.specs.Private.{Gives, FirstPermitted, answer_in, form_of, who_runs};
 
 use crate::answer::done;
 use crate::scheduler::{NO_HOLDER, QoSScheduler, Reply};
 use records::{MAX_CPUS, QoSClass, Slot, TaskControlBlock, mask_permits};
 use rules::{Answer, Call, ContextSwitchPlan, ContextSwitchTarget, Pick, Value};
 
-// How an answer tells who is to run on a core. A closure in its place would be no plainer: `ticked` and `pick` would hand it
-// on, and their promises would speak of it.
+// How an answer tells who is to run on a core. A closure in its place would be no plainer: `pick` would hand it on, and its
+// promise would speak of it.
 #[derive(Clone, Copy)]
 pub(crate) enum Form {
     // By the slot: schedule and tick.
@@ -22,6 +22,17 @@ pub(crate) enum Form {
 }
 
 impl Form {
+    // A plan from the previous holder where one is asked for, else the slot.
+    pub(crate) fn of(planned: bool, previous: Option<Slot>) -> Form
+        ensures { result ≡ form_of planned previous }
+    {
+        if planned {
+            Form::Plan(previous)
+        } else {
+            Form::Slot
+        }
+    }
+
     // The answer to a choice: the pick that led there, if any, and who is to run.
     pub(crate) fn answer(self, pick: Option<Pick>, target: ContextSwitchTarget) -> Answer
         ensures { result ≡ answered pick (who_runs self target) }
@@ -115,7 +126,8 @@ impl QoSScheduler {
         self.first_permitted(band, core).is_some()
     }
 
-    // The first entry of the band that may use the core, behind its place in the queue.
+    // The first entry of the band that may use the core, behind its place in the queue. Gone through by place, which is
+    // answered; an iterator over a ring would be a type of its own.
     fn first_permitted(&self, band: QoSClass, core: usize) -> Option<(usize, Slot)>
         ensures { FirstPermitted (abs self.now) core band result }
     {

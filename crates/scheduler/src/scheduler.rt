@@ -5,7 +5,6 @@ ghost use Rattle.rules.specs.State.{holder_in};
 ghost use Rattle.scheduler.specs.Stored.{state_of};
 
 use crate::answer::{done, refused};
-use crate::picking::Form;
 use queue::BandQueue;
 use records::{BAND_COUNT, MAX_CPUS, MAX_TASKS, SchedError, Slot, TaskControlBlock};
 use rules::{Answer, Call, Value};
@@ -21,7 +20,7 @@ pub struct QoSScheduler {
     // A record for each slot.
     pub tasks: [TaskControlBlock; MAX_TASKS],
     // A queue for each band, at the band's code. Methods lend the array first and a queue of it then, since no element of a field
-    // beside ghost fields can be lent at once.
+    // beside ghost fields can be lent at once to be changed.
     pub queues: [BandQueue; BAND_COUNT],
     // The slot that each core holds, or NO_HOLDER.
     pub current: [u8; MAX_CPUS],
@@ -62,10 +61,8 @@ impl QoSScheduler {
         ensures { Meets call self result }
     {
         match call {
-            Call::Tick { core, elapsed_us } => self.ticked(core, elapsed_us, Form::Slot),
-            Call::Plan { core, elapsed_us } => {
-                self.ticked(core, elapsed_us, Form::Plan(self.holder_on(core)))
-            }
+            Call::Tick { core, elapsed_us } => self.ticked(core, elapsed_us, false),
+            Call::Plan { core, elapsed_us } => self.ticked(core, elapsed_us, true),
             _ => self.apply_any(call),
         }
     }

@@ -1,6 +1,7 @@
 // Tick, yield, handoff and plan. What they test alike stands in each, as in waking.rt.
 ghost use Rattle.scheduler.specs.Scheduler.{Meets, abs};
-ghost use Rattle.scheduler.specs.Private.{Gives, answer_in};
+ghost use Rattle.scheduler.specs.Private.{Gives, answer_in, form_of};
+ghost use Rattle.rules.specs.State.{holder_of};
 ghost use Rattle.rules.specs.Ticking.{ticked, waits_before};
 ghost use Rattle.std.specs.Prelude.{◌≡◌};
 
@@ -23,19 +24,21 @@ impl QoSScheduler {
     pub fn on_timer_tick_on_cpu(self, core: usize, elapsed_us: u32) -> Reply
         ensures { Meets (Call.Tick core elapsed_us) self result }
     {
-        self.ticked(core, elapsed_us, Form::Slot)
+        self.ticked(core, elapsed_us, false)
     }
 
-    // The tick, told in either form. The queue has room for the holder, so that no refusal is looked at: 64 entries would be
-    // 64 Ready slots, and it is not Ready when it is pushed.
-    pub(crate) fn ticked(mut self, core: usize, elapsed_us: u32, form: Form) -> Reply
-        ensures { Gives (answer_in form (ticked core elapsed_us (abs self))) result }
+    // The tick, told as a slot, or as a plan from the holder that the core had. Memory is fixed, and so a flag and no `Form`,
+    // with which `step` took a copy of the state more on the stack. The queue has room for the holder: 64 entries would be 64 Ready slots,
+    // and it is not Ready when it is pushed.
+    pub(crate) fn ticked(mut self, core: usize, elapsed_us: u32, planned: bool) -> Reply
+        ensures { Gives (answer_in (form_of planned (holder_of (abs self) core)) (ticked core elapsed_us (abs self))) result }
     {
         let now = self.system_ticks_us.wrapping_add(elapsed_us as u64);
+        let holder = self.holder_on(core);
+        let form = Form::of(planned, holder);
         if core >= MAX_CPUS {
             return self.told(form.who_runs(ContextSwitchTarget::Idle));
         }
-        let holder = self.holder_on(core);
         self.system_ticks_us = now;
         let Some(slot) = holder else {
             return self.pick(core, form);
@@ -58,7 +61,7 @@ impl QoSScheduler {
             return self.pick(core, form);
         }
         let queues = &mut self.queues;
-        let _ = queues[task.qos.code() as usize].push(slot);
+        queues[task.qos.code() as usize].push(slot).unwrap();
         self.tasks[slot.0] = task.with_consumed(0).with_state(ThreadState::Ready);
         self.pick(core, form)
     }
@@ -89,9 +92,9 @@ impl QoSScheduler {
         if task.state != ThreadState::Running {
             return self.refused(SchedError::NoSuchTask);
         }
-        // There is room, as in a tick.
+        // There is room, as in a tick. Both are written out: a method of its own would have to ask for a holder that is not Ready.
         let queues = &mut self.queues;
-        let _ = queues[task.qos.code() as usize].push(slot);
+        queues[task.qos.code() as usize].push(slot).unwrap();
         self.tasks[slot.0] = task.with_state(ThreadState::Ready);
         self.current[core] = NO_HOLDER;
         self.pick(core, Form::Plan(previous))
@@ -131,6 +134,6 @@ impl QoSScheduler {
     pub fn plan_context_switch_on_cpu(self, core: usize, elapsed_us: u32) -> Reply
         ensures { Meets (Call.Plan core elapsed_us) self result }
     {
-        self.ticked(core, elapsed_us, Form::Plan(self.holder_on(core)))
+        self.ticked(core, elapsed_us, true)
     }
 }

@@ -43,7 +43,8 @@ pub(crate) enum Order {
     Same,
     // `buffer`: the answer buffer. Its first 51 bytes
     Buffer,
-    // `record N`, `queue N`, `holders`, `time`, `byte N`: that part of the space, by its place and length. Its bytes
+    // `record N`, `queue N`, `holders`, `time`, `byte N`: that part of the space, by its place and length, since the space is a byte
+    // longer than an image. Its bytes
     Part(usize, usize),
 }
 

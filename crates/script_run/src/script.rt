@@ -5,6 +5,7 @@ use frames::{
     ANSWER_MAX, HostError, accepts_image, call_on_image, check_image, new_image, read_frame,
     read_image, returned, step, write_answer, write_image,
 };
+use samples::MARK;
 use scheduler::QoSScheduler;
 use text::{behind, front, is_same};
 
@@ -12,11 +13,8 @@ use text::{behind, front, is_same};
 // checks that.
 const SPACE: usize = 3276;
 
-// An answer buffer that is longer than it has to be.
+// An answer buffer that is longer than it has to be, by as much as scripts look at.
 const ROOM: usize = 60;
-
-// What space and buffer are filled with.
-const MARK: u8 = 170;
 
 #[derive(Clone, Copy)]
 pub(crate) struct Script {
@@ -47,6 +45,7 @@ impl Refusal {
     }
 }
 
+// By hand, since an error by thiserror would have a text that nobody prints.
 impl From<HostError> for Refusal {
     fn from(error: HostError) -> Refusal {
         Refusal::Host(error)
@@ -169,7 +168,7 @@ impl Script {
     }
 }
 
-// 0 for an image that is accepted, and a refusal's number.
+// 0 for an image that is accepted, and a refusal's number: scripts expect numbers.
 fn code<T: Drop>(answered: Result<T, HostError>) -> u64 {
     answered.err().map_or(0, HostError::code)
 }

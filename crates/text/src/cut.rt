@@ -8,7 +8,7 @@ pub fn front(bytes: &[u8], n: usize) -> &[u8]
     bytes.get(..n).unwrap_or(bytes)
 }
 
-// Those from a place on; none where there is no such place.
+// Those from a place on; none where there is no such place. `frames`, which programs test by this, has such a function of its own.
 pub fn behind(bytes: &[u8], at: usize) -> &[u8]
     ensures { result.now ≡ drop at bytes.now }
 {

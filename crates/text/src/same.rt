@@ -2,14 +2,14 @@
 ghost use Rattle.std.specs.Prelude.{◌≡◌, cond, codes};
 ghost use Rattle.text.specs.Same.{TellsSame};
 
-// Whether two runs of bytes are the same.
+// Whether two runs of bytes are the same: `==` as a function, so that what is told of it is promised.
 pub fn is_same(one: &[u8], other: &[u8]) -> bool
     ensures { TellsSame one.now other.now result }
 {
     one == other
 }
 
-// A flag, as it is printed.
+// A flag, as it is printed; and below, whether something was kept. Each is one line: with the words as arguments it would be `if`.
 pub fn yes_or_no(flag: bool) -> &'static str
     ensures { result.now ≡ cond flag (codes "yes") (codes "no") }
 {

@@ -19,5 +19,5 @@ returns c =
     (run_on _ _ 8 _ _ c.put_number-7.ensures refl refl
     (run_on _ _ 4 _ _ c.put_number-8.ensures c.from-4.ensures refl
     (run_on _ _ 4 _ _ c.put_number-9.ensures c.from-5.ensures refl
-    (run_end _ _ 1 c.put_number-10.ensures (flag_is c.args.task.in_use c.from-6.ensures))))))))))
-    ∙ sets_all _ _ (length-record_bytes c.args.task)
+    (run_end _ _ 1 c.put_number-10.ensures (flag_is c.args.task.now.in_use c.from-6.ensures))))))))))
+    ∙ sets_all _ _ (length-record_bytes c.args.task.now)

@@ -7,4 +7,4 @@ pub returns-in-Tick : goal.returns-in-Tick
 returns-in-Tick c = meets_call c.in-Tick.is (tick_told c.ticked.ensures)
 
 pub returns-in-Plan : goal.returns-in-Plan
-returns-in-Plan c = meets_call c.in-Plan.is (plan_told c.holder_on.ensures c.ticked-in-Plan.ensures)
+returns-in-Plan c = meets_call c.in-Plan.is (plan_told c.ticked-in-Plan.ensures)

@@ -3,4 +3,4 @@ use Rattle.scheduler.proofs.OnCores.{plan_told}
 use Rattle.scheduler.proofs.scheduler.QoSScheduler.plan_context_switch_on_cpu.Goals as goal
 
 pub returns : goal.returns
-returns c = plan_told c.holder_on.ensures c.ticked.ensures
+returns c = plan_told c.ticked.ensures

@@ -1,7 +1,7 @@
 -- `plan_voluntary_yield_on_cpu` meets its contract: the laws of `OnCores` say what the yield comes to on each way. Assumes nothing.
 use Rattle.std.proofs.Common.{arith}
 use Rattle.scheduler.specs.Scheduler.{abs}
-use Rattle.scheduler.proofs.OnCores.{yield_past, yield_none, yield_other, holder_low, yield_kept, yield_comes}
+use Rattle.scheduler.proofs.OnCores.{yield_past, yield_none, yield_other, holder_low, yield_pushed, yield_kept, yield_comes}
 use Rattle.scheduler.proofs.Promises.{meets_given, meets_refused}
 use Rattle.scheduler.proofs.scheduler.QoSScheduler.plan_voluntary_yield_on_cpu.Goals as goal
 
@@ -26,6 +26,11 @@ pub returns-then-ne : goal.returns-then-ne
 unfolding abs
 returns-then-ne c =
     meets_refused c.refused-then-ne.ensures (yield_other c.args.self c.args.core c.if-core-ge-MAX_CPUS.false c.in-Some.ensures _ c.if-ne.ensures)
+
+pub unwrap-requires : goal.unwrap-requires
+unfolding abs
+unwrap-requires c =
+    yield_pushed c.args.self c.args.core c.if-core-ge-MAX_CPUS.false c.in-Some.ensures _ c.if-ne.ensures c.code.ensures _ c.push.ensures
 
 pub invariant_of-self-clause-accepted : goal.invariant_of-self-clause-accepted
 unfolding abs

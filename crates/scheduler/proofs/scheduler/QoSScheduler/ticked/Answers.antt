@@ -1,16 +1,20 @@
 -- `ticked` meets its contract: the laws of `OnCores` say what the tick comes to on each way. Assumes nothing.
-use Rattle.std.proofs.Common.{arith, sym, refl}
+use Rattle.std.proofs.Common.{◌≡◌, arith, sym, refl, ap, ◌∙◌}
+use Rattle.std.specs.Prelude.{Some}
+use Rattle.rules.specs.State.{holder_of}
+use Rattle.scheduler.specs.Private.{form_of}
 use Rattle.scheduler.specs.Scheduler.{abs}
-use Rattle.scheduler.proofs.OnCores.{tick_past, ticked_kept, later_kept, later_cleared_kept, tick_none, tick_blocked, holder_low, consumed_small, consumed_fits, budget_fits, charged_fits, tick_stays, tick_stays_gives, over_used, over_waits, spared_kept, tick_spared, sent_back_kept, tick_over}
+use Rattle.scheduler.proofs.OnCores.{tick_past, ticked_kept, later_kept, later_cleared_kept, tick_none, tick_blocked, holder_low, consumed_small, consumed_fits, budget_fits, charged_fits, tick_stays, tick_stays_gives, Over, over_used, over_waits, spared_kept, tick_spared, sent_back_pushed, sent_back_kept, tick_over}
 use Rattle.scheduler.proofs.Promises.{gives_as, gives_told}
 use Rattle.scheduler.proofs.scheduler.QoSScheduler.ticked.Goals as goal
-use Rattle.scheduler.proofs.scheduler.QoSScheduler.ticked.Goals.{else-charged-task-via-then-charged-task+else-not-waits_before, else-charged-task-via-else-charged-task}
+use Rattle.scheduler.proofs.scheduler.QoSScheduler.ticked.Goals.{After-eq-2, else-charged-task-via-then-charged-task+else-not-waits_before, else-charged-task-via-else-charged-task}
 
 pub returns-then-core-ge-MAX_CPUS : goal.returns-then-core-ge-MAX_CPUS
 unfolding abs
 returns-then-core-ge-MAX_CPUS c =
-    gives_told c.args.form c.args.self (tick_past c.args.self c.args.core c.if-core-ge-MAX_CPUS.true c.args.elapsed_us)
-    c.who_runs.ensures c.told.ensures refl
+    gives_as (c.of-form.ensures ∙ ap (form_of c.args.planned) c.holder_on-holder.ensures) refl
+    (gives_told c.of-form.result c.args.self (tick_past c.args.self c.args.core c.if-core-ge-MAX_CPUS.true c.args.elapsed_us)
+    c.who_runs.ensures c.told.ensures refl)
 
 pub invariant_of-self-in_default-clause-accepted : goal.invariant_of-self-in_default-clause-accepted
 unfolding abs
@@ -19,7 +23,7 @@ invariant_of-self-in_default-clause-accepted c = later_kept c.args.self c.args.c
 pub returns-in_default : goal.returns-in_default
 unfolding abs
 returns-in_default c =
-    gives_as c.args.form
+    gives_as (c.of-form.ensures ∙ ap (form_of c.args.planned) c.holder_on-holder.ensures)
     (sym (tick_none c.args.self c.args.core c.if-core-ge-MAX_CPUS.false c.in_default.ensures c.args.elapsed_us)) c.pick.ensures
 
 pub offset_bounds-self-slot : goal.offset_bounds-self-slot
@@ -37,7 +41,7 @@ invariant_of-self-then-eq-clause-accepted c = later_cleared_kept c.args.self c.a
 pub returns-then-eq : goal.returns-then-eq
 unfolding abs
 returns-then-eq c =
-    gives_as c.args.form
+    gives_as (c.of-form.ensures ∙ ap (form_of c.args.planned) c.holder_on-holder.ensures)
     (sym (tick_blocked c.args.self c.args.core c.if-core-ge-MAX_CPUS.false c.in-Some.ensures _ c.args.elapsed_us c.if-eq.ensures))
     c.pick-then-eq.ensures
 
@@ -72,8 +76,18 @@ invariant_of-self-then-not-waits_before-clause-accepted c =
 pub returns-then-not-waits_before : goal.returns-then-not-waits_before
 unfolding abs
 returns-then-not-waits_before c =
-    tick_stays_gives c.args.self c.args.core c.if-core-ge-MAX_CPUS.false c.in-Some.ensures _ c.args.elapsed_us c.if-eq.ensures
-    c.if-charged-task.true c.if-not-waits_before.ensures c.with_consumed.ensures c.args.form c.target.ensures c.answer.ensures refl
+    gives_as (c.of-form.ensures ∙ ap (form_of c.args.planned) c.holder_on-holder.ensures) refl
+    (tick_stays_gives c.args.self c.args.core c.if-core-ge-MAX_CPUS.false c.in-Some.ensures _ c.args.elapsed_us c.if-eq.ensures
+    c.if-charged-task.true c.if-not-waits_before.ensures c.with_consumed.ensures c.of-form.result c.target.ensures c.answer.ensures refl)
+
+-- the slice is over, on either way there
+over : (c : After-eq-2) (some : Some c.in-Some.slot ≡ holder_of (abs c.args.self) c.args.core) →
+    Over c.args.self c.args.core c.if-core-ge-MAX_CPUS.false some _ c.args.elapsed_us c.if-eq.ensures c.else-charged-task.self
+unfolding abs
+over c some = elim c.else-charged-task.branch [
+  | else-charged-task-via-then-charged-task+else-not-waits_before w ↦ over_waits _ _ _ _ _ _ _ w.self-is w.if-not-waits_before.ensures
+  | else-charged-task-via-else-charged-task w ↦ over_used _ _ _ _ _ _ _ w.self-is w.if-charged-task.false
+]
 
 pub offset_bounds-self-slot-then-eq-2 : goal.offset_bounds-self-slot-then-eq-2
 unfolding abs
@@ -88,51 +102,37 @@ unfolding abs
 invariant_of-self-then-eq-2-clause-accepted c =
     spared_kept c.args.self c.args.core c.if-core-ge-MAX_CPUS.false c.in-Some.ensures _ c.args.elapsed_us c.if-eq.ensures
     c.else-charged-task.self
-    (elim c.else-charged-task.branch [
-      | else-charged-task-via-then-charged-task+else-not-waits_before w ↦
-          over_waits _ _ _ _ _ _ _ w.self-is w.if-not-waits_before.ensures
-      | else-charged-task-via-else-charged-task w ↦
-          over_used _ _ _ _ _ _ _ w.self-is w.if-charged-task.false
-    ])
+    (over (goal.at.invariant_of-self-then-eq-2-clause-accepted c).After-eq-2 c.in-Some.ensures)
     c.if-eq-2.ensures c.with_consumed-then-eq-2.ensures
 
 pub returns-then-eq-2 : goal.returns-then-eq-2
 unfolding abs
 returns-then-eq-2 c =
-    gives_as c.args.form
+    gives_as (c.of-form.ensures ∙ ap (form_of c.args.planned) c.holder_on-holder.ensures)
     (sym (tick_spared c.args.self c.args.core c.if-core-ge-MAX_CPUS.false c.in-Some.ensures _ c.args.elapsed_us c.if-eq.ensures
     c.else-charged-task.self
-    (elim c.else-charged-task.branch [
-      | else-charged-task-via-then-charged-task+else-not-waits_before w ↦
-          over_waits _ _ _ _ _ _ _ w.self-is w.if-not-waits_before.ensures
-      | else-charged-task-via-else-charged-task w ↦
-          over_used _ _ _ _ _ _ _ w.self-is w.if-charged-task.false
-    ])
+    (over (goal.at.returns-then-eq-2 c).After-eq-2 c.in-Some.ensures)
     c.if-eq-2.ensures c.with_consumed-then-eq-2.ensures)) c.pick-then-eq-2.ensures
 
-pub invariant_of-self-3-clause-accepted : goal.invariant_of-self-3-clause-accepted
+pub unwrap-requires : goal.unwrap-requires
 unfolding abs
-invariant_of-self-3-clause-accepted c =
+unwrap-requires c =
+    sent_back_pushed c.args.self c.args.core c.if-core-ge-MAX_CPUS.false c.in-Some.ensures _ c.args.elapsed_us c.if-eq.ensures
+    c.else-charged-task.self (over (goal.at.unwrap-requires c).After-eq-2 c.in-Some.ensures) c.if-eq-2.ensures c.code.ensures _ c.push.ensures
+
+pub invariant_of-self-2-clause-accepted : goal.invariant_of-self-2-clause-accepted
+unfolding abs
+invariant_of-self-2-clause-accepted c =
     sent_back_kept c.args.self c.args.core c.if-core-ge-MAX_CPUS.false c.in-Some.ensures _ c.args.elapsed_us c.if-eq.ensures
     c.else-charged-task.self
-    (elim c.else-charged-task.branch [
-      | else-charged-task-via-then-charged-task+else-not-waits_before w ↦
-          over_waits _ _ _ _ _ _ _ w.self-is w.if-not-waits_before.ensures
-      | else-charged-task-via-else-charged-task w ↦
-          over_used _ _ _ _ _ _ _ w.self-is w.if-charged-task.false
-    ])
+    (over (goal.at.invariant_of-self-2-clause-accepted c).After-eq-2 c.in-Some.ensures)
     c.if-eq-2.ensures c.code.ensures _ c.push.ensures c.with_consumed-2.ensures c.with_state.ensures
 
 pub returns : goal.returns
 unfolding abs
 returns c =
-    gives_as c.args.form
+    gives_as (c.of-form.ensures ∙ ap (form_of c.args.planned) c.holder_on-holder.ensures)
     (sym (tick_over c.args.self c.args.core c.if-core-ge-MAX_CPUS.false c.in-Some.ensures _ c.args.elapsed_us c.if-eq.ensures
     c.else-charged-task.self
-    (elim c.else-charged-task.branch [
-      | else-charged-task-via-then-charged-task+else-not-waits_before w ↦
-          over_waits _ _ _ _ _ _ _ w.self-is w.if-not-waits_before.ensures
-      | else-charged-task-via-else-charged-task w ↦
-          over_used _ _ _ _ _ _ _ w.self-is w.if-charged-task.false
-    ])
+    (over (goal.at.returns c).After-eq-2 c.in-Some.ensures)
     c.if-eq-2.ensures c.code.ensures _ c.push.ensures c.with_consumed-2.ensures c.with_state.ensures)) c.pick-2.ensures
