@@ -41,8 +41,9 @@ impl Stream {
     // Goes on with the text: the answers to its lines, each closed by a newline, at the front of a buffer, in order and as many as
     // have room; bytes behind them stay. A line that no newline closes yet is held for the next block; where the block is the
     // last it is answered. ANSWER_LINE_MAX bytes have room for any one line's answer. The calls are made here, since in a function
-    // of its own the state would be copied twice more for each; so the end of a line stands twice, for a line that is a frame and for
-    // one that is none, and what stops it three times, each with the state as it is there. `used` and `written` are counted by hand, since they are answered.
+    // of its own the state would be copied twice more for each; so the end of a line stands twice, for a line that is a frame and
+    // for one that is none, and what stops it three times, each with the state as it is there. `used` and `written` are counted by
+    // hand, since they are answered.
     pub fn feed(self, block: &[u8], last: bool, out: &mut [u8]) -> Fed
         ensures { Feeds last self block.now out.old out.new result }
     {

@@ -29,9 +29,9 @@ name Holders = codes "holders"
 name Micros = codes "microseconds"
 
 -- a line with its name and its bytes in an image
-abbrev pub line : List ℕ → Part → List ℕ
-line image p = name p ++ (codes " " ++ (hex_text (part (place p) (width p) image) ++ codes "\n"))
+abbrev pub part_line : List ℕ → Part → List ℕ
+part_line image p = name p ++ (codes " " ++ (hex_text (part (place p) (width p) image) ++ codes "\n"))
 
 -- the lines of some parts
-abbrev pub lines : List ℕ → List Part → List ℕ
-lines image parts = flat_map (line image) parts
+abbrev pub part_lines : List ℕ → List Part → List ℕ
+part_lines image parts = flat_map (part_line image) parts

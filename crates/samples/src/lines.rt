@@ -1,6 +1,6 @@
 // Parts of an image, as they are printed.
 ghost use Rattle.std.specs.Prelude.{Some};
-ghost use Rattle.samples.specs.Layout.{lines};
+ghost use Rattle.samples.specs.Layout.{part_lines};
 
 use crate::layout::{Image, Part};
 use std::fmt;
@@ -11,7 +11,7 @@ use text::Hex;
 pub struct Parts<'a>(pub &'a Image, pub &'a [Part]);
 
 impl fmt::Display for Parts<'_> {
-    ghost output = { λ parts. Some (lines parts.0.now parts.1.now) };
+    ghost output = { λ parts. Some (part_lines parts.0.now parts.1.now) };
 
     fn fmt<W: fmt::Write>(&self, f: &mut fmt::Formatter<W>) -> fmt::Result {
         for part in self.1 {

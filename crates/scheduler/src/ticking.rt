@@ -28,8 +28,8 @@ impl QoSScheduler {
     }
 
     // The tick, told as a slot, or as a plan from the holder that the core had. Memory is fixed, and so a flag and no `Form`,
-    // with which `step` took a copy of the state more on the stack. The queue has room for the holder: 64 entries would be 64 Ready slots,
-    // and it is not Ready when it is pushed.
+    // with which `step` took a copy of the state more on the stack. The queue has room for the holder: 64 entries would be
+    // 64 Ready slots, and it is not Ready when it is pushed.
     pub(crate) fn ticked(mut self, core: usize, elapsed_us: u32, planned: bool) -> Reply
         ensures { Gives (answer_in (form_of planned (holder_of (abs self) core)) (ticked core elapsed_us (abs self))) result }
     {
