@@ -86,6 +86,7 @@ module _ (s : QoSScheduler) (core : ℕ) (band : QoSClass) {n : ℕ} (code : n �
         place_is = first_at (permitted (abs s) core) (queue (abs s) band) place 0 (omega (arith, here.0)) before (λ _. may ∙ passes);
         in_queue = here.0;
         entry_is = here.1;
+        in_table = entry_low;
       }
 
       pub entry_fails : b ≡ false → permitted (abs s) core (get_or (queue (abs s) band) place 0) ≡ false
@@ -144,9 +145,6 @@ module _ (s : QoSScheduler) (core : ℕ) (low : core < 64) where
     ready : ReadyOf band (task (abs s) e.0)
     ready = ready_at s band place first.in_queue first.entry_is
 
-    pub first_low : e.0 < 64
-    first_low = in_table s band ready
-
     module _ {n index : ℕ} (code : n ≡ band_code band) (at : index ≡ band_code band) (before : NoBandBefore (abs s) core index) (d : BandQueue)
         (q : BandQueue) (left : entries q ≡ taken_at place (entries (get_or s.queues n d))) (dt : TaskControlBlock) {u : TaskControlBlock}
         (u-is : u ≡ picked (get_or s.tasks e.0 dt)) where
@@ -154,7 +152,7 @@ module _ (s : QoSScheduler) (core : ℕ) (low : core < 64) where
       read = get_or s.tasks e.0 dt
 
       read_is : read ≡ task (abs s) e.0
-      read_is = record_at_lem s e.0 dt first_low
+      read_is = record_at_lem s e.0 dt first.in_table
 
       chosen_is : choice (abs s) core band_order ≡ Some (record { slot = e; band = band })
       chosen_is =
@@ -196,6 +194,6 @@ module _ (s : QoSScheduler) (core : ℕ) (low : core < 64) where
       pick_gives f same {to} to-is a-is state =
           gives-chosen f (ap (λ (r : QoSScheduler). rule_p core (abs r)) (sym same) ∙ pick_comes)
           (to-is
-          ∙ ap (λ (r : TaskControlBlock). Task e r.cr3) (sym u-is ∙ sym (get_or-set_same s.tasks e.0 u empty_record (omega (arith, first_low, slots s)))))
+          ∙ ap (λ (r : TaskControlBlock). Task e r.cr3) (sym u-is ∙ sym (get_or-set_same s.tasks e.0 u empty_record (omega (arith, first.in_table, slots s)))))
           (a-is ∙ (λ i. answered (Some (record { slot = e; band = (ap (λ (r : TaskControlBlock). r.qos) read_is ∙ ready.in_band) i })) (who_runs f to)))
           state

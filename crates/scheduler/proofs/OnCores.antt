@@ -6,7 +6,7 @@ use borrow.Author.Tests.{leb-true, lt-leb, lt-ltb, not-false}
 use denote.Enum.Bare.{sameb}
 use mir.Val.{Fits}
 use mir.Syntax.{w32, w64}
-use Rattle.std.specs.Prelude.{Option, None, Some, Result, is_ok, IsOk}
+use Rattle.std.specs.Prelude.{Option, None, Some, Result, is_ok, IsOk, IfSome}
 use Rattle.records.specs.contracts.state.ThreadState.{the_type}
 use Rattle.records.specs.declared.band.QoSClass.{QoSClass}
 use Rattle.records.specs.declared.band.QoSClass.TheVariants.{UserInteractive, RealTimeIO, Background}
@@ -86,7 +86,11 @@ module _ (s : QoSScheduler) (core : ℕ) (past : 64 ≤ core) where
   unfolding handoff
   handoff_past = rw (le-leb 64 core past) refl
 
--- ---- the record of a core's holder, which was read
+-- ---- a core's holder, which was read: a slot of the table, and its record
+
+pub holder_in_table : (s : QoSScheduler) (core : ℕ) (o : Option Slot) → o ≡ holder_of (abs s) core → IfSome o (λ (h : Slot). h.0 < 64)
+holder_in_table s core None is = tt
+holder_in_table s core (Some h) is = used_in_table (abs s) (valid s).slots h.0 (holder_is (abs s) (known s) core h (sym is)).used
 
 pub holder_task : (s : QoSScheduler) (core : ℕ) {o : Option Slot} → o ≡ holder_of (abs s) core → holder_record o (abs s) ≡ current_task_on_cpu core (abs s)
 unfolding current_task_on_cpu
@@ -165,7 +169,7 @@ module _ (s : QoSScheduler) (core : ℕ) (low : core < 64) where
     may = holder_is (abs s) (known s) core h (sym some)
 
     pub holder_low : h.0 < 64
-    holder_low = used_in_table (abs s) (valid s).slots h.0 may.used
+    holder_low = holder_in_table s core (Some h) some
 
     there : h.0 < length s.tasks
     unfolding abs
@@ -193,6 +197,13 @@ module _ (s : QoSScheduler) (core : ℕ) (low : core < 64) where
 
       pub charged_fits : (elapsed : ℕ) → read.consumed_slice_us + elapsed < read.slice_budget_us → Fits w32 (read.consumed_slice_us + elapsed)
       charged_fits elapsed short = omega (arith, budget_small)
+
+      -- its band's queue has room for it, where it is not Ready
+      has_room : is_state (task (abs s) h.0).state Ready ≡ false → {n : ℕ} → IsBandCode read.qos n → (dq : BandQueue) →
+          {a : Result Unit SchedError} {q : BandQueue} → Push (get_or s.queues n dq) h a q → IsOk a
+      has_room idle code dq push =
+          ap is_ok (push_answer s read.qos code.is dq push)
+          ∙ rw (lt-ltb h.0 64 holder_low, room_in_queue (abs s) (valid s) read.qos h.0 holder_low idle) refl
 
       -- the holder goes to the tail of its band, with the record that f makes of its own
       module _ {n : ℕ} (code : IsBandCode read.qos n) (dq : BandQueue) {a : Result Unit SchedError} {q : BandQueue}
@@ -293,10 +304,7 @@ module _ (s : QoSScheduler) (core : ℕ) (low : core < 64) where
             unfolding abs
             sent_back_pushed runs {n} code dq {a} {q} push =
                 subst (λ (r : Parts). Push (get_or r.1.0 n dq) h a q → IsOk a) (sym o.parts)
-                (λ pushes.
-                ap is_ok (push_answer s read.qos code.is dq pushes)
-                ∙ rw (lt-ltb h.0 64 holder_low, room_in_queue (abs s) (valid s) read.qos h.0 holder_low (rw read_is (so read.state Ready runs))) refl)
-                push
+                (has_room (rw read_is (so read.state Ready runs)) code dq) push
 
             -- any other goes to the tail of its band
             module _ (runs : false ≡ sameb the_type read.state Ready) {n : ℕ} (code : IsBandCode read.qos n) (dq : BandQueue)
@@ -336,12 +344,9 @@ module _ (s : QoSScheduler) (core : ℕ) (low : core < 64) where
         unfolding yield
         yields-to = rw (lt-leb 64 core low, sym some, runs, enqueue_done (abs s) (known s) h.0 holder_low may.used idle) refl
 
-        -- there is room for it
         pub yield_pushed : {n : ℕ} → IsBandCode read.qos n → (dq : BandQueue) {a : Result Unit SchedError} {q : BandQueue} →
             Push (get_or s.queues n dq) h a q → IsOk a
-        yield_pushed code dq push =
-            ap is_ok (push_answer s read.qos code.is dq push)
-            ∙ rw (lt-ltb h.0 64 holder_low, room_in_queue (abs s) (valid s) read.qos h.0 holder_low idle) refl
+        yield_pushed = has_room idle
 
         module _ {n : ℕ} (code : IsBandCode read.qos n) (dq : BandQueue) {a : Result Unit SchedError} {q : BandQueue}
             (push : Push (get_or s.queues n dq) h a q) {u : TaskControlBlock} (u-is : u ≡ with_state read Ready) where

@@ -44,11 +44,12 @@ pub record OutOf (slot : Slot) (before after : List BandQueue) : Type 0 where
   pub bands : length after ≡ 3
   pub queues_are : queues_of after ≡ each_queue (without slot.0) (queues_of before)
 
--- the place of the band's first entry that may use the core, and that entry
+-- the place of the band's first entry that may use the core, and that entry, which is a slot of the table
 pub record IsFirst (s : State) (core : ℕ) (band : QoSClass) (found : ℕ × Slot) : Type 0 where
   pub place_is : place_for s core band ≡ found.0
   pub in_queue : found.0 < length (queue s band)
   pub entry_is : get_or (queue s band) found.0 0 ≡ found.1.0
+  pub in_table : found.1.0 < 64
 
 abbrev pub FirstPermitted : State → ℕ → QoSClass → Option (ℕ × Slot) → Type 0
 FirstPermitted s core band o = MatchOption o (waits_in s core band ≡ false) (IsFirst s core band)

@@ -1,5 +1,5 @@
 // The queries: they change nothing and pick nobody.
-ghost use Rattle.std.specs.Prelude.{◌≡◌};
+ghost use Rattle.std.specs.Prelude.{◌≡◌, ◌<◌, IfSome};
 ghost use Rattle.rules.specs.Queries.{can_run_on_core, task_index_for_tid, task_at, current_task_on_cpu, core_of, core_below};
 ghost use Rattle.scheduler.specs.Scheduler.{abs};
 ghost use Rattle.rules.specs.State.{holder_of};
@@ -49,9 +49,10 @@ impl QoSScheduler {
         self.task(self.holder_on(core)?)
     }
 
-    // Who holds the core; None where nobody does, and for 64 and above.
+    // Who holds the core, a slot of the table; None where nobody does, and for 64 and above.
     pub(crate) fn holder_on(&self, core: usize) -> Option<Slot>
-        ensures { result ≡ holder_of (abs self.now) core }
+        ensures holder { result ≡ holder_of (abs self.now) core }
+        ensures in_table { IfSome result (λ slot. slot.0 < 64) }
     {
         holder_of(*self.current.get(core)?)
     }

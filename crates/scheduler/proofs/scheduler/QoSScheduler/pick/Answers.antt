@@ -3,24 +3,9 @@ use Rattle.std.proofs.Common.{rules, arith, ap, sym, ◌∙◌, refl}
 use Rattle.rules.specs.Picking.{rule_p}
 use Rattle.scheduler.specs.declared.scheduler.QoSScheduler.{QoSScheduler}
 use Rattle.scheduler.specs.Scheduler.{abs}
-use Rattle.scheduler.proofs.OnBands.{band_at, pick_kept, pick_none, first_low, pick_comes, pick_gives}
+use Rattle.scheduler.proofs.OnBands.{band_at, pick_kept, pick_none, pick_comes, pick_gives}
 use Rattle.scheduler.proofs.Promises.{gives-chosen}
 use Rattle.scheduler.proofs.scheduler.QoSScheduler.pick.Goals as goal
-
-pub offset_bounds-self-slot : goal.offset_bounds-self-slot
-offset_bounds-self-slot c = omega (arith, first_low c.loop-band.self c.args.core c.requires c.in-Some.ensures)
-
-pub bounds-self-slot : goal.bounds-self-slot
-bounds-self-slot c = first_low c.loop-band.self c.args.core c.requires c.in-Some.ensures
-
-pub offset_bounds-self-slot-in-Some : goal.offset_bounds-self-slot-in-Some
-offset_bounds-self-slot-in-Some c = omega (arith, first_low c.loop-band.self c.args.core c.requires c.in-Some.ensures)
-
-pub bounds-self-slot-in-Some : goal.bounds-self-slot-in-Some
-bounds-self-slot-in-Some c = first_low c.loop-band.self c.args.core c.requires c.in-Some.ensures
-
-pub overflow_cast-self : goal.overflow_cast-self
-overflow_cast-self c = omega (arith, first_low c.loop-band.self c.args.core c.requires c.in-Some.ensures)
 
 pub invariant_of-self-clause-accepted : goal.invariant_of-self-clause-accepted
 invariant_of-self-clause-accepted c =
