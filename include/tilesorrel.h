@@ -19,11 +19,11 @@
  *         }
  *     }
  *
- * Calls on one image must come one after another: take a lock around each. A call uses the SSE2 registers and the red
- * zone, and up to TILESORREL_STACK_BYTES of stack. 'tools/make archive' proves the library and makes
- * target/staticlib/libtilesorrel.a, which needs nothing but memcpy and memset. docs/host.md says how to build and link it, what to
- * call when and what to do about a refusal, and has the image; docs/frames.md has every frame and answer with an
- * example.
+ * Calls on one image must come one after another: take a lock around each. A call uses the SSE2 registers, may use the
+ * red zone, and uses up to TILESORREL_STACK_BYTES of stack. 'tools/make archive' proves the library and makes
+ * target/staticlib/libtilesorrel.a, which needs nothing but memcpy, memmove and memset. docs/host.md says how to build
+ * and link it, what to call when and what to do about a refusal, and has the image; docs/frames.md has every frame and
+ * answer with an example.
  *
  * Numbers of more than one byte are big-endian, in frames, answers and image.
  */
@@ -107,6 +107,7 @@ uint64_t step(uint8_t *image, size_t image_len, const uint8_t *frame, size_t fra
 #define TILESORREL_TERMINATE_BYTES 9
 
 /* Takes a task out of its queue and makes it Blocked, with nothing consumed; a core that holds it goes on holding it.
+ * Block a task that runs only while its core holds it, seen in the same lock: by now its slot may be another's.
  * Fields: slot 8. Comes back: nothing. Refused: 3 if the slot is 64 or above or free, then 5 if it is Blocked. */
 #define TILESORREL_BLOCK 0x03
 #define TILESORREL_BLOCK_BYTES 9
@@ -134,9 +135,9 @@ uint64_t step(uint8_t *image, size_t image_len, const uint8_t *frame, size_t fra
 #define TILESORREL_SCHEDULE_BYTES 9
 
 /* A core's timer: adds the time to the task that it holds. Where its slice is over, or a task that may use this core
- * waits in an earlier band, it goes to the tail of its band, and there is a pick, which may be it again. So too where
- * it is Blocked, without being queued, and where the core holds nobody. With 0 microseconds it is for a core that may
- * be without a task: after a terminate, a wake or a refused handoff.
+ * waits in an earlier band, it goes to the tail of its band, unless it is Ready and waits there already, and there is a
+ * pick, which may be it again. So too where it is Blocked, without being queued, and where the core holds nobody. With
+ * 0 microseconds it is for a core that may be without a task: after a terminate, a wake or a refused handoff.
  * Fields: core 8, elapsed microseconds 4. Comes back: the slot to run, or TILESORREL_NONE, 1 byte. A core of 64 or
  * above gives TILESORREL_NONE, and nothing is changed. */
 #define TILESORREL_TICK 0x07

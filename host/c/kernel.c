@@ -50,15 +50,14 @@ static pthread_mutex_t lock = PTHREAD_MUTEX_INITIALIZER;
 /* ---- Calls ---- */
 
 /* The refusals that may come about, since no core waits for another: of a wake where nobody waits for the sensor, of a
- * block where the task is Blocked or has ended, of a yield where it was stopped, of a handoff where it has ended.
+ * block where the task is Blocked, of a yield where it was stopped or has ended, of a handoff where it has ended.
  * Nothing is to be done about them: in place of a stopped task the core's next tick takes another, and where its task
  * has ended the core was kicked. */
 static bool may_be_refused(uint8_t call, uint8_t status)
 {
     return (call == TILESORREL_WAKE && status == TILESORREL_NOT_BLOCKED) ||
            (call == TILESORREL_BLOCK && status == TILESORREL_ALREADY_BLOCKED) ||
-           ((call == TILESORREL_BLOCK || call == TILESORREL_YIELD || call == TILESORREL_HANDOFF) &&
-            status == TILESORREL_NO_SUCH_TASK);
+           ((call == TILESORREL_YIELD || call == TILESORREL_HANDOFF) && status == TILESORREL_NO_SUCH_TASK);
 }
 
 /* Does a call for a core that has the lock. A real core has interrupts off here, and has saved its task's registers
@@ -204,15 +203,33 @@ static void wake_task(struct core *self, uint8_t slot)
     pthread_mutex_unlock(&lock);
 }
 
-/* Blocks the task that a core runs; it is handed off next. It may have ended a moment ago, and a new one have its slot,
- * which then waits for the sensor. */
+/* Whether a core still holds the task that it runs. The caller has the lock, so that it may read the image. */
+static bool holds_running(const struct core *self)
+{
+    return image[TILESORREL_HOLDERS_AT + self->number] == self->running;
+}
+
+/* Blocks the task that a core runs; it is handed off next. Where the core holds it no more, it ended a moment ago, and
+ * the core was kicked; by now its slot may be a new task's, which is not to wait for this one's sensor. */
 static void block_running(struct core *self)
 {
-    self->blocked = true;
-    ask_alone(self, TILESORREL_BLOCK, TILESORREL_BLOCK_BYTES, self->running, 0);
+    pthread_mutex_lock(&lock);
+    if (holds_running(self)) {
+        ask_about(self, TILESORREL_BLOCK, TILESORREL_BLOCK_BYTES, self->running, 0);
+        self->blocked = true;
+    }
+    pthread_mutex_unlock(&lock);
 }
 
 /* ---- Cores ---- */
+
+/* Checks that a core runs whom it holds, or has been kicked to look. */
+static void check_running(const struct core *self)
+{
+    pthread_mutex_lock(&lock);
+    check(self->kicked || holds_running(self), "does not run whom it holds: core", self->number);
+    pthread_mutex_unlock(&lock);
+}
 
 /* A core's call for itself. Where it was kicked, that is a tick of 0 microseconds. Its timer's tick may have come
  * first, between the kick and this, and have given it a task; then that task goes on, or back to its queue where one of
@@ -220,6 +237,7 @@ static void block_running(struct core *self)
 static void serve_core(struct core *self, unsigned turn)
 {
     uint8_t number = self->number;
+    check_running(self);
     if (turn % KICK_TURNS == 0 && was_kicked(self)) {
         tick(self, 0);
         self->blocked = false;

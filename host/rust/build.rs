@@ -1,6 +1,6 @@
 //! Finds libtilesorrel.a for the linker, or makes it: the file that TILESORREL_ARCHIVE names; else the clone's own,
 //! target/staticlib/libtilesorrel.a; else what `tools/make archive` makes there. An archive that is there is taken as it
-//! is, also where the code is newer: `rt` makes it anew, and so does host/run.
+//! is, also where the code is newer: `tools/make archive` makes it anew, and so does host/run.
 
 use std::env;
 use std::fs;

@@ -59,6 +59,7 @@ impl Comparison {
             "{} and step against the Rust, seed {}, {} lists from number {}",
             self.calls, self.seed, self.lists, self.first
         );
+        self.refuses_arguments()?;
         let mut tally = self.tally()?;
         tally.coverage.print();
         println!("through step went all but {} lines with a bad digit or an odd one", tally.calls - tally.steps);
@@ -69,6 +70,18 @@ impl Comparison {
         }
         println!("{} lists, {} calls, {} differences", self.lists, tally.calls, tally.differences);
         Ok(tally.differences == 0 && tally.calls > 0)
+    }
+
+    /// Given an argument, the program says in one line on standard error what it reads, and does nothing else.
+    fn refuses_arguments(&self) -> Result<(), String> {
+        let output = Command::new(&self.calls).arg("--help").stdin(Stdio::null()).output();
+        let output = output.map_err(|error| format!("{}: {error}", self.calls))?;
+        let lines = output.stderr.split_inclusive(|&byte| byte == b'\n').count();
+        if lines == 1 && output.stdout.is_empty() && output.status.success() {
+            Ok(())
+        } else {
+            Err(format!("{} --help should write one line to standard error, and nothing else", self.calls))
+        }
     }
 
     /// Shares the lists out: each worker takes the next one that nobody has.

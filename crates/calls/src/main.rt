@@ -11,6 +11,7 @@ ghost use Rattle.frames.specs.Stream.{longest_answer};
 
 use frames::Stream;
 use scheduler::QoSScheduler;
+use std::env::{Env, FillError};
 use std::io::Read;
 
 // How much is read at a time, and the room for what is answered.
@@ -25,6 +26,13 @@ struct Progress {
 }
 
 fn main(rt: HostRuntime) {
+    // with an argument it says what it is, and does not wait for input
+    let Err(FillError::NotPresent) = rt.arg(1, &mut []) else {
+        return report(
+            &rt,
+            "it takes no arguments; it reads frames from standard input, a line each",
+        );
+    };
     let mut stream = Stream::new(QoSScheduler::new());
     let mut stdin = rt.stdin();
     let mut input = [0u8; BLOCK];

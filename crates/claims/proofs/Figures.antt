@@ -1,7 +1,7 @@
 -- Document 01's numbers, under its headings and in its order, each as a literal beside the definition that has it. The code is proved equal to the
 -- definitions, so a number that is wrong in both alike would be proved too; here it is refused. Where a number stands inside a definition, an
 -- example on either side of it is computed. K1 to K11 are in KCases, of rules, document 01's five lines in Example, and an image for each condition
--- of acceptance in the program image_run; 4,294,967,295 is in no definition, since a sum that passes it is above every slice.
+-- of acceptance in the script of script_run; 4,294,967,295 is in no definition, since a sum that passes it is above every slice.
 -- Assumes nothing.
 use mathlib.Core.Path.{◌≡◌, refl}
 use mathlib.Core.Bool.{Bool, true, false}

@@ -1,4 +1,4 @@
--- The host's entries: each way out of `new_image`, of a call on an image and of `step`. Assumes nothing.
+-- The host's entries: each way out of `write_new_image`, of a call on an image and of `frame_on_image`. Assumes nothing.
 use mathlib.Core.Path.{◌≡◌, refl, sym, ap, ◌∙◌}
 use mathlib.Core.Bool.{Bool, true, false, cond, not, ◌||◌, or-true, true≢false}
 use mathlib.Core.List.{List}
@@ -39,7 +39,7 @@ host_number-small NoFrame = omega arith
 
 -- ---- a new image
 
--- what `new_image` gets from the writer
+-- what `write_new_image` gets from the writer
 pub new_made : {s : State} {before after : List ℕ} {r : Result Unit HostError} → s ≡ new_state → WritesImage s before after r →
     first_image (made r) after ≡ host_new before
 unfolding host_new
@@ -118,7 +118,7 @@ module _ (image answer : List ℕ) where
   on_tests false true c = refl
   on_tests false false c = refl
 
--- the ways out of `step`
+-- the ways out of `frame_on_image`
 module _ (image frame answer : List ℕ) where
   pub step_short : length answer < answer_room → hosted (refusal_returned WrongLength) image answer ≡ host_step image frame answer
   unfolding host_step

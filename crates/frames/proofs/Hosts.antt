@@ -68,7 +68,7 @@ refusal-bytes NotBlocked = refl
 pub new-image : AcceptedImage (image_of new_state) × (state_at (image_of new_state) ≡ new_state)
 new-image = (new_has_image.image_accepted, new_has_image.reads_as)
 
--- so what `new_image` writes is accepted, and stands for new
+-- so what `write_new_image` writes is accepted, and stands for new
 pub made-accepted : (image : List ℕ) → (host_new image).returned ≡ 0 → AcceptedImage (host_new image).image × (state_at (host_new image).image ≡ new_state)
 unfolding host_new
 made-accepted image = by_if StandsForNew (eqb (length image) image_length) (λ _ _. new-image) (λ _ h. absurd (omega (arith, h)))

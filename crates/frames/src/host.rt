@@ -1,5 +1,5 @@
-// What a host kernel calls: a new image, and a frame on an image with its answer in a buffer; and any call on an image. The
-// entries that C links are the crate tilesorrel's.
+// For a host kernel: a first image, a frame on an image with its answer in a buffer, and any call on an image. The entries that
+// C links are the crate tilesorrel's, and hand on to the first two.
 ghost use Rattle.std.specs.Prelude.{◌≡◌, ◌≤◌, IfOk};
 ghost use Rattle.frames.specs.AcceptedImage.{AcceptedImage};
 ghost use Rattle.frames.specs.Host.{returned, answer_room, on_image, call_on_image, first_image, made, host_new, hosted, host_step};
@@ -19,7 +19,7 @@ const REFUSED: u64 = 256;
 
 // The image of a new scheduler, for a host that begins. Refused with 7 where there is no room for it, or too much. Any bytes will
 // do. All IMAGE_BYTES of them are written; bytes of any other number are left as they were.
-pub fn new_image(image: &mut [u8]) -> Result<(), HostError>
+pub fn write_new_image(image: &mut [u8]) -> Result<(), HostError>
     ensures { first_image (made result) image.new ≡ host_new image.old }
 {
     write_image(QoSScheduler::new(), image)
@@ -29,7 +29,7 @@ pub fn new_image(image: &mut [u8]) -> Result<(), HostError>
 // 7: the image does not have IMAGE_BYTES bytes, or the buffer has under ANSWER_MAX. 8: the image is not accepted. 9: the bytes
 // are no frame. After these, image and buffer are as they were. Else the image holds the state after the call, as it was where
 // the answer is a refusal; bytes of the buffer behind the answer stay.
-pub fn step(image: &mut [u8], frame: &[u8], answer: &mut [u8]) -> Result<usize, HostError>
+pub fn frame_on_image(image: &mut [u8], frame: &[u8], answer: &mut [u8]) -> Result<usize, HostError>
     ensures host { hosted (returned result) image.new answer.new ≡ host_step image.old frame.now answer.old }
     ensures length { IfOk result (λ n. n ≤ answer_room) }
 {

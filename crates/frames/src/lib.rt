@@ -1,5 +1,5 @@
-// Frames of document 01: calls and answers as bytes, and as lines of text; the image of a scheduler's state; and the entries
-// for a host kernel, which make an image and do a frame on it.
+// Frames of document 01: calls and answers as bytes, and as lines of text; the image of a scheduler's state; and, for a host
+// kernel, a first image and a frame on an image.
 //
 //   bytes    big-endian numbers in a slice
 //   hex      lower-case hexadecimal, two digits a byte
@@ -15,7 +15,7 @@
 //   accept   whether bytes are an image that is accepted
 //   read     the scheduler that an image stands for
 //   touched  the slots whose records a call can change
-//   host     a call on an image, and the two entries for a host kernel
+//   host     for a host kernel: a first image, a frame on an image, and any call on one
 //   refusal  what is refused before a call is made
 //
 // Nothing is presumed of any bytes: what is no frame is refused with 9, and what is no image with 7 or 8. Each function
@@ -45,7 +45,7 @@ mod touched;
 pub use accept::accepts_image;
 pub use decode::read_frame;
 pub use encode::{ANSWER_MAX, write_answer};
-pub use host::{call_on_image, new_image, returned, step};
+pub use host::{call_on_image, frame_on_image, returned, write_new_image};
 pub use image::write_image;
 pub use layout::IMAGE_BYTES;
 pub use lines::{ANSWER_LINE_MAX, next_line, read_line};

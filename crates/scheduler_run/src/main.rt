@@ -1,22 +1,30 @@
-// Runs document 01's cases K1 to K11 through the scheduler and prints every answer, then what those cases do not touch:
-// plans, ends of tasks, and slots and cores of 64 and above. Some calls go by their method, some by `apply`.
+// Makes calls by the scheduler's methods, each by its own name, and holds answer and whole state against those of `apply`. Then
+// runs block and tick on a lent state beside the methods by value: first cases of document 01, whose answers are printed, then
+// a long list of calls by value with a lent block and a lent tick between every two.
 //
-//   cases     K1 to K11
-//   further   what they do not touch
-//   begun     the schedulers that both begin from
+//   methods   each method by its name
+//   lent      the cases on a lent state, and that the comparison notices a difference
+//   rounds    the long list
+//   begun     the schedulers that they begin from
+//   outcome   a block and a tick, both ways
 //   show      what is printed
 #![tactic(auto)]
 
 mod begun;
-mod cases;
-mod further;
+mod lent;
+mod methods;
+mod outcome;
+mod rounds;
 mod show;
 
-use cases::cases;
-use further::further;
+use lent::{cases, told_apart};
+use methods::methods;
+use rounds::rounds;
 use std::io;
 
 fn main(rt: HostRuntime) -> io::Result<()> {
+    methods(&rt)?;
     cases(&rt)?;
-    further(&rt)
+    told_apart(&rt)?;
+    rounds(&rt)
 }

@@ -2,10 +2,9 @@
 use crate::operation::Order;
 use crate::said::Said;
 use frames::{
-    ANSWER_MAX, HostError, accepts_image, call_on_image, check_image, new_image, read_frame,
-    read_image, returned, step, write_answer, write_image,
+    ANSWER_MAX, HostError, accepts_image, call_on_image, check_image, frame_on_image, read_frame,
+    read_image, returned, write_answer, write_image, write_new_image,
 };
-use samples::MARK;
 use scheduler::QoSScheduler;
 use text::{behind, front, is_same};
 
@@ -13,13 +12,16 @@ use text::{behind, front, is_same};
 // checks that.
 const SPACE: usize = 3276;
 
+// What a byte is before anything is written over it.
+const MARK: u8 = 170;
+
 // An answer buffer that is longer than it has to be, by as much as scripts look at.
 const ROOM: usize = 60;
 
 #[derive(Clone, Copy)]
 pub(crate) struct Script {
     state: QoSScheduler,
-    bytes: [u8; SPACE],
+    space: [u8; SPACE],
     kept: [u8; SPACE],
     // How many bytes of the space, from its front, are the image.
     length: usize,
@@ -56,7 +58,7 @@ impl Script {
     pub(crate) fn new() -> Script {
         Script {
             state: QoSScheduler::new(),
-            bytes: [MARK; SPACE],
+            space: [MARK; SPACE],
             kept: [MARK; SPACE],
             length: SPACE - 1,
             buffer: [MARK; ROOM],
@@ -76,13 +78,13 @@ impl Script {
                 self.back(*at, bytes.as_slice());
                 return self.read();
             }
-            Order::Same => return Said::Same(self.bytes == self.kept),
+            Order::Same => return Said::Same(self.space == self.kept),
             Order::Buffer => return Said::Bytes(front(&self.buffer, ANSWER_MAX)),
-            Order::Part(at, n) => return Said::Bytes(front(behind(&self.bytes, *at), *n)),
+            Order::Part(at, n) => return Said::Bytes(front(behind(&self.space, *at), *n)),
             Order::Fresh => self.state = QoSScheduler::new(),
             Order::Length(n) => self.length = *n,
-            Order::Fill => self.bytes = [MARK; SPACE],
-            Order::Keep => self.kept = self.bytes,
+            Order::Fill => self.space = [MARK; SPACE],
+            Order::Keep => self.kept = self.space,
             Order::Back(at, bytes) => self.back(*at, bytes.as_slice()),
         }
         Said::Nothing
@@ -98,7 +100,7 @@ impl Script {
         let n = returned.unwrap_or(0);
         Said::Told {
             rest_kept: is_same(behind(&before.buffer, n), behind(&self.buffer, n)),
-            image_kept: before.bytes == self.bytes,
+            image_kept: before.space == self.space,
             returned: match returned {
                 Ok(n) => n as u64,
                 Err(refusal) => refusal.number(),
@@ -121,9 +123,9 @@ impl Script {
     }
 
     fn step(&mut self, room: usize, frame: &[u8]) -> Result<usize, Refusal> {
-        let image = self.bytes.get_mut(..self.length);
+        let image = self.space.get_mut(..self.length);
         let room = self.buffer.get_mut(..room);
-        Ok(step(
+        Ok(frame_on_image(
             image.ok_or(Refusal::NotDone)?,
             frame,
             room.ok_or(Refusal::NotDone)?,
@@ -131,7 +133,7 @@ impl Script {
     }
 
     fn new_image(&mut self) -> Result<usize, Refusal> {
-        new_image(self.image()?)?;
+        write_new_image(self.image()?)?;
         Ok(0)
     }
 
@@ -144,12 +146,12 @@ impl Script {
     // The bytes that are lent as the image.
     fn image(&mut self) -> Result<&mut [u8], Refusal> {
         let n = self.length;
-        self.bytes.get_mut(..n).ok_or(Refusal::NotDone)
+        self.space.get_mut(..n).ok_or(Refusal::NotDone)
     }
 
     // Where the image is refused, there is a new scheduler.
     fn read(&mut self) -> Said<'_> {
-        let image = front(&self.bytes, self.length);
+        let image = front(&self.space, self.length);
         let read = read_image(image);
         self.state = read.unwrap_or(QoSScheduler::new());
         Said::Judged {
@@ -161,8 +163,8 @@ impl Script {
 
     // The space is what was kept, with these bytes at a place, as far as the space goes.
     fn back(&mut self, at: usize, bytes: &[u8]) {
-        self.bytes = self.kept;
-        for (place, byte) in self.bytes.iter_mut().skip(at).zip(bytes) {
+        self.space = self.kept;
+        for (place, byte) in self.space.iter_mut().skip(at).zip(bytes) {
             *place = *byte;
         }
     }

@@ -20,10 +20,11 @@
 //! ```
 //!
 //! Calls on one image must come one after another, as `&mut` demands: keep it in a lock, and take the lock for each. A
-//! call uses the SSE2 registers and the red zone, and up to `STACK_BYTES` of stack. `tools/make archive` proves the
-//! library and makes target/staticlib/libtilesorrel.a, which needs nothing but memcpy and memset; rustc finds it by
-//! `-L native=target/staticlib`, and cargo by build.rs. docs/host.md says how to build and link it, what to call when and
-//! what to do about a refusal, and has the image; docs/frames.md has every frame and answer with an example.
+//! call uses the SSE2 registers, may use the red zone, and uses up to `STACK_BYTES` of stack. `tools/make archive` proves
+//! the library and makes target/staticlib/libtilesorrel.a, which needs nothing but memcpy, memmove and memset; rustc
+//! finds it by `-L native=target/staticlib`, and cargo by build.rs. docs/host.md says how to build and link it, what to
+//! call when and what to do about a refusal, and has the image; docs/frames.md has every frame and answer with an
+//! example.
 //!
 //! Numbers of more than one byte are big-endian, in frames, answers and image. The names and numbers are those of
 //! include/tilesorrel.h, without its prefix.
@@ -173,6 +174,7 @@ pub const TERMINATE: u8 = 0x02;
 pub const TERMINATE_BYTES: usize = 9;
 
 /// Takes a task out of its queue and makes it Blocked, with nothing consumed; a core that holds it goes on holding it.
+/// Block a task that runs only while its core holds it, seen in the same lock: by now its slot may be another's.
 ///
 /// Fields: slot 8. Comes back: nothing. Refused: 3 if the slot is 64 or above or free, then 5 if it is Blocked.
 pub const BLOCK: u8 = 0x03;
@@ -207,9 +209,9 @@ pub const SCHEDULE: u8 = 0x06;
 pub const SCHEDULE_BYTES: usize = 9;
 
 /// A core's timer: adds the time to the task that it holds. Where its slice is over, or a task that may use this core
-/// waits in an earlier band, it goes to the tail of its band, and there is a pick, which may be it again. So too where
-/// it is Blocked, without being queued, and where the core holds nobody. With 0 microseconds it is for a core that may
-/// be without a task: after a terminate, a wake or a refused handoff.
+/// waits in an earlier band, it goes to the tail of its band, unless it is Ready and waits there already, and there is a
+/// pick, which may be it again. So too where it is Blocked, without being queued, and where the core holds nobody. With
+/// 0 microseconds it is for a core that may be without a task: after a terminate, a wake or a refused handoff.
 ///
 /// Fields: core 8, elapsed microseconds 4. Comes back: the slot to run, or `NONE`, 1 byte. A core of 64 or above gives
 /// `NONE`, and nothing is changed.

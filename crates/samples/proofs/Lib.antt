@@ -1,2 +1,0 @@
--- What a list of calls makes of a state, a call at a time.
-pub mod Runs
