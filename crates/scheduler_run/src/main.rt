@@ -6,7 +6,7 @@
 //   lent      the cases on a lent state, and that the comparison notices a difference
 //   rounds    the long list
 //   begun     the schedulers that they begin from
-//   outcome   a block and a tick, both ways
+//   outcome   a block and a tick, both ways, and whether two replies are the same
 //   show      what is printed
 #![tactic(auto)]
 

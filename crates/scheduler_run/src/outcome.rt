@@ -55,6 +55,7 @@ impl Outcome {
     }
 }
 
+// Whether two replies have the same answer and the same state.
 pub(crate) fn same_reply(one: &Reply, other: &Reply) -> bool {
     one.answer == other.answer && same_state(one.state, other.state)
 }
