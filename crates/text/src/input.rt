@@ -1,5 +1,6 @@
 // An input, read line by line.
-ghost use Rattle.std.specs.Prelude.{◌≤◌, length};
+ghost use Rattle.std.specs.Prelude.{◌≤◌, length, take};
+ghost use Rattle.std.specs.Io.{StopsAt};
 
 use crate::front;
 use std::io::Read;
@@ -29,10 +30,12 @@ impl<R: Read> Input<R> {
         }
     }
 
-    // Reads a line with its newline, as far as there is room, and says how long it is; 0 at the end of the input. A read that fails
-    // ends the input like one that finds nothing, and the next call tries again after either. What a read brings no contract can say.
+    // Reads a line with its newline, as far as there is room, and says how long it is; 0 at the end of the input. Nothing follows a
+    // newline. A read that fails ends the input like one that finds nothing, and the next call tries again after either. What a
+    // read brings no contract can say.
     pub fn read_line(&mut self, line: &mut [u8]) -> usize
-        ensures { result ≤ length line.new }
+        ensures within { result ≤ length line.new }
+        ensures stops { StopsAt (take result line.new) 10 }
     {
         for n in 0..line.len() {
             let Some(byte) = self.next_byte() else {
