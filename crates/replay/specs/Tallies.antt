@@ -47,12 +47,12 @@ pub record BeginsList (r : Replay) : Type 0 where
 abbrev pub fed_frame : Replay → List ℕ → FedSoFar
 fed_frame before line = fed_by false before.stream line longest_answer
 
--- an answer waits where there is any
+-- an answer waits, where there is any
 abbrev pub waiting_of : List ℕ → Option (List ℕ)
 waiting_of [] = None
 waiting_of (b ∷ text) = Some (b ∷ text)
 
--- a frame is fed to the stream, and its answer waits
+-- a frame is fed to the stream, and its answer waits once its newline has come
 pub record FeedsFrame (before : Replay) (line : List ℕ) (after : Replay) : Type 0 where
   pub state_is : abs after.stream.state ≡ (fed_frame before line).state
   pub held_is : held_in after.stream ≡ (fed_frame before line).held

@@ -15,7 +15,7 @@ use scheduler::QoSScheduler;
 use std::fmt;
 use text::Input;
 
-// No stored line is longer. What is behind so many bytes of one is a line of its own.
+// No stored line is longer. What follows so many bytes of a line is a line of its own.
 const STORED_MAX: usize = 256;
 
 // What begins a list's name.
