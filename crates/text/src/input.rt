@@ -1,5 +1,5 @@
 // An input, read line by line.
-ghost use Rattle.std.specs.Prelude.{◌≤◌, length, take};
+ghost use Rattle.std.specs.Prelude.{◌≡◌, ◌≤◌, length, take};
 ghost use Rattle.std.specs.Io.{StopsAt};
 
 use crate::front;
@@ -21,7 +21,10 @@ pub struct Input<R> {
 
 impl<R: Read> Input<R> {
     // The lines that a reader gives from here on.
-    pub fn new(reader: R) -> Input<R> {
+    pub fn new(reader: R) -> Input<R>
+        ensures reads { result.reader ≡ reader }
+        ensures none_yet { result.next ≡ result.end }
+    {
         Input {
             reader,
             block: [0; BLOCK],
