@@ -138,17 +138,17 @@ module _ (s : State) (slot : ℕ) where
 
   push_refused : slot < 64 → (es : List ℕ) {e : SchedError} → Err e ≡ push_result slot es → (full es ≡ true) × (e ≡ QueueFull)
   push_refused low es {e} answer =
-      split (λ (b : Bool). ◌≡◌ {A = Result Unit SchedError} (Err e) (cond b (Err QueueFull) (Ok tt)) → (b ≡ true) × (e ≡ QueueFull)) (full es)
+      split (λ (b : Bool). ◌≡◌ {A = Result Unit SchedError} (Err e) (cond (not b) (Ok tt) (Err QueueFull)) → (b ≡ true) × (e ≡ QueueFull)) (full es)
       (λ _ same. (refl, cc))
       (λ _ same. let never : ◌≡◌ {A = ℕ} 0 1 = cc in absurd (omega arith))
-      (answer ∙ ap (λ (b : Bool). cond b (cond (full es) (Err QueueFull) (Ok tt)) (Err NoSuchTask)) (lt-ltb slot 64 low))
+      (rw (lt-ltb slot 64 low) at answer)
 
   push_done : slot < 64 → (es : List ℕ) {x : Unit} → Ok x ≡ push_result slot es → full es ≡ false
   push_done low es {x} answer =
-      split (λ (b : Bool). ◌≡◌ {A = Result Unit SchedError} (Ok x) (cond b (Err QueueFull) (Ok tt)) → b ≡ false) (full es)
+      split (λ (b : Bool). ◌≡◌ {A = Result Unit SchedError} (Ok x) (cond (not b) (Ok tt) (Err QueueFull)) → b ≡ false) (full es)
       (λ _ same. let never : ◌≡◌ {A = ℕ} 0 1 = cc in absurd (omega arith))
       (λ _ same. refl)
-      (answer ∙ ap (λ (b : Bool). cond b (cond (full es) (Err QueueFull) (Ok tt)) (Err NoSuchTask)) (lt-ltb slot 64 low))
+      (rw (lt-ltb slot 64 low) at answer)
 
   module _ {t : TaskControlBlock} (read : Some t ≡ in_use_at slot s) where
     here : missing s slot ≡ false
