@@ -81,7 +81,7 @@ impl Script {
             Order::Same => return Said::Same(self.space == self.kept),
             Order::Buffer => return Said::Bytes(front(&self.buffer, ANSWER_MAX)),
             Order::Part(at, n) => return Said::Bytes(front(behind(&self.space, *at), *n)),
-            Order::Fresh => self.state = QoSScheduler::new(),
+            Order::Fresh => self.fresh(),
             Order::Length(n) => self.length = *n,
             Order::Fill => self.space = [MARK; SPACE],
             Order::Keep => self.kept = self.space,
@@ -116,6 +116,8 @@ impl Script {
     }
 
     fn apply(&mut self, frame: &[u8]) -> Result<usize, Refusal> {
+        // without an image no call is made, on the scheduler either
+        let _image = self.image()?;
         let call = read_frame(frame).ok_or(Refusal::NotDone)?;
         let reply = self.state.apply(call);
         self.state = reply.state;
@@ -149,15 +151,28 @@ impl Script {
         self.space.get_mut(..n).ok_or(Refusal::NotDone)
     }
 
-    // Where the image is refused, there is a new scheduler.
+    // Where the image is refused, there is a new scheduler; where it would be longer than the space, the old one stays.
     fn read(&mut self) -> Said<'_> {
+        let reader = match self.space.get(..self.length) {
+            Some(image) => {
+                let read = read_image(image);
+                self.state = read.unwrap_or(QoSScheduler::new());
+                code(read)
+            }
+            None => Refusal::NotDone.number(),
+        };
         let image = front(&self.space, self.length);
-        let read = read_image(image);
-        self.state = read.unwrap_or(QoSScheduler::new());
         Said::Judged {
             accepted: accepts_image(image),
             check: code(check_image(image)),
-            reader: code(read),
+            reader,
+        }
+    }
+
+    // A new scheduler, but not where the image would be longer than the space.
+    fn fresh(&mut self) {
+        if self.image().is_ok() {
+            self.state = QoSScheduler::new();
         }
     }
 
