@@ -2,8 +2,8 @@
 use crate::operation::Order;
 use crate::said::Said;
 use frames::{
-    ANSWER_MAX, HostError, accepts_image, call_on_image, check_image, frame_on_image, read_frame,
-    read_image, returned, write_answer, write_image, write_new_image,
+    ANSWER_MAX, HostError, RefusedImage, accepts_image, call_on_image, check_image, frame_on_image,
+    read_frame, read_image, returned, write_answer, write_image, write_new_image,
 };
 use scheduler::QoSScheduler;
 use text::{behind, front, is_same};
@@ -151,20 +151,18 @@ impl Script {
         self.space.get_mut(..n).ok_or(Refusal::NotDone)
     }
 
-    // Where the image is refused, there is a new scheduler; where it would be longer than the space, the old one stays.
+    // Where the image would be longer than the space, the scheduler stays.
     fn read(&mut self) -> Said<'_> {
-        let reader = match self.space.get(..self.length) {
-            Some(image) => {
-                let read = read_image(image);
-                self.state = read.unwrap_or(QoSScheduler::new());
-                code(read)
-            }
-            None => Refusal::NotDone.number(),
+        let (state, reader) = match self.space.get(..self.length).map(|image| read_image(image)) {
+            None => (self.state, Refusal::NotDone.number()),
+            Some(Ok(state)) => (state, 0),
+            Some(Err(RefusedImage { error, state })) => (state, error.code()),
         };
+        self.state = state;
         let image = front(&self.space, self.length);
         Said::Judged {
             accepted: accepts_image(image),
-            check: code(check_image(image)),
+            check: check_image(image).err().map_or(0, HostError::code),
             reader,
         }
     }
@@ -183,9 +181,4 @@ impl Script {
             *place = *byte;
         }
     }
-}
-
-// 0 for an image that is accepted, and a refusal's number: scripts expect numbers.
-fn code<T: Drop>(answered: Result<T, HostError>) -> u64 {
-    answered.err().map_or(0, HostError::code)
 }
