@@ -45,7 +45,7 @@ pub(crate) enum Order {
 
 impl Order {
     // The order that these words give, if there is such an operation; words that it takes none of are passed over. Where a part
-    // begins and how long it is are document 01's own numbers.
+    // begins and how long it is are document 01's own numbers, and past the last record or queue the first comes again.
     pub(crate) fn in_words(line: &[u8]) -> Option<Order> {
         let (word, words) = cut_at(line, b' ');
         let (number, rest) = number_in(words);
