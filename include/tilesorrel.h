@@ -21,9 +21,9 @@
  *
  * Calls on one image must come one after another: take a lock around each. A call uses the SSE2 registers, may use the
  * red zone, and uses up to TILESORREL_STACK_BYTES of stack. 'tools/make archive' proves the library and makes
- * target/staticlib/libtilesorrel.a, which needs nothing but memcpy, memmove and memset. docs/host.md says how to build
- * and link it, what to call when and what to do about a refusal, and has the image; docs/frames.md has every frame and
- * answer with an example.
+ * target/staticlib/libtilesorrel.a, which needs nothing but memcpy and memset. docs/host.md says how to build and link
+ * it, what to call when and what to do about a refusal, and has the image; docs/frames.md has every frame and answer
+ * with an example.
  *
  * Numbers of more than one byte are big-endian, in frames, answers and image.
  */

@@ -6,7 +6,7 @@
 mod layout {
     include!(env!("BENCH_LAYOUT"));
 }
-pub use layout::{ANSWER, CALL, CALL_OPTION, IMAGE_READ, REPLY, STATE};
+pub use layout::{ANSWER, CALL, CALL_OPTION, REPLY, STATE};
 
 pub const WORD: usize = size_of::<u64>();
 
@@ -22,8 +22,8 @@ extern "C" {
     pub fn on_timer_tick_on_cpu_lent(answer: *mut u8, state: *mut u8, core: u64, elapsed: u32);
     #[link_name = "frames::decode::read_frame"]
     pub fn read_frame(call: *mut u8, frame: *const u8, frame_len: usize);
-    #[link_name = "frames::read::read_image"]
-    pub fn read_image(read: *mut u8, image: *const u8, image_len: usize);
+    #[link_name = "frames::read::state_at"]
+    pub fn state_at(state: *mut u8, image: *const u8); // of an image that is accepted
     #[link_name = "frames::image::write_image"]
     pub fn write_image(state: *mut u8, image: *mut u8, image_len: usize); // its result is in registers, and not looked at
     #[link_name = "frames::encode::write_answer"]

@@ -1,7 +1,7 @@
 //! Our functions by value and lent, called as a program in Rattle calls them. Calls are read off frames before they are
 //! timed.
 
-use crate::module::{self, Room, ANSWER, CALL, CALL_OPTION, IMAGE_READ, REPLY, SPARE, STATE, WORD};
+use crate::module::{self, Room, ANSWER, CALL, CALL_OPTION, REPLY, SPARE, STATE, WORD};
 use crate::step::{Frame, ANSWER_BYTES};
 use crate::{image, Wrong};
 use std::hint::black_box;
@@ -45,13 +45,9 @@ pub struct Ours {
 impl Ours {
     /// The scheduler that an image stands for.
     pub fn of(image: &[u8]) -> Ours {
-        let mut read = Room::for_bytes(IMAGE_READ);
         let mut ours = Ours { state: Room::for_bytes(STATE), reply: Room::for_bytes(REPLY) };
-        // SAFETY: there is room for what is given, and the state stands at its end.
-        unsafe {
-            module::read_image(read.address(), image.as_ptr(), image.len());
-            ours.state.address().copy_from_nonoverlapping(read.address().add(IMAGE_READ - STATE), STATE);
-        }
+        // SAFETY: there is room for what is given, and the image is accepted.
+        unsafe { module::state_at(ours.state.address(), image.as_ptr()) };
         ours
     }
 

@@ -2,7 +2,7 @@
 //! a state that does not stand where it should, our functions may do anything.
 
 use crate::frames::{Call, CREATE, PLAN, SYSTEM_TICKS_US, TICK};
-use crate::module::{self, Room, ANSWER, CALL, CALL_OPTION, IMAGE_READ, REPLY, STATE};
+use crate::module::{self, Room, ANSWER, CALL, CALL_OPTION, REPLY, STATE};
 use crate::step::{Frame, Host};
 use crate::Wrong;
 
@@ -13,11 +13,11 @@ const TID: u32 = 0x1234_5678;
 pub fn check() -> Result<(), Wrong> {
     let mut host = Host::new()?;
     host.answered(&Frame::of(&Call::new(CREATE, &[u64::from(TID), 0, 0, 0, 0])));
-    let mut read = Room::for_bytes(IMAGE_READ);
-    // SAFETY: there is room for far more than is given.
-    unsafe { module::read_image(read.address(), host.image.as_ptr(), host.image.len()) };
-    ends("IMAGE_READ", IMAGE_READ, &read)?;
-    begins("IMAGE_READ less STATE", IMAGE_READ - STATE, &read)?;
+    let mut state = Room::for_bytes(STATE);
+    // SAFETY: there is room for far more than is given, and the host's image is accepted.
+    unsafe { module::state_at(state.address(), host.image.as_ptr()) };
+    ends("STATE", STATE, &state)?;
+    begins("STATE", 0, &state)?;
 
     let kinds = [(CREATE, &[1, 2, 3, 4, u64::MAX][..]), (TICK, &[5, 6]), (PLAN, &[5, 6]), (SYSTEM_TICKS_US, &[])];
     let mut calls = kinds.map(|(number, arguments)| call(&Call::new(number, arguments)));
@@ -30,8 +30,7 @@ pub fn check() -> Result<(), Wrong> {
     let mut reply = Room::for_bytes(REPLY);
     // SAFETY: there is room for far more than is given, and state and call stand where they were looked for.
     unsafe {
-        let state = read.address().add(IMAGE_READ - STATE);
-        module::apply(reply.address(), state, calls[3].address().add(CALL_OPTION - CALL));
+        module::apply(reply.address(), state.address(), calls[3].address().add(CALL_OPTION - CALL));
     }
     ends("REPLY", REPLY, &reply)?;
     begins("ANSWER", ANSWER, &reply)

@@ -8,7 +8,7 @@ use mathlib.Core.Bool.{Bool, true, false}
 use mathlib.Core.List.{List, [], ◌∷◌, ◌++◌, map}
 use Prim.Native.Nat.{ℕ, ◌+◌, ◌-◌, ◌^◌}
 use lib.ListN.{length, replicate}
-use Rattle.std.specs.Prelude.{None, Some}
+use Rattle.std.specs.Prelude.{None, Some, Ok, Err}
 use Rattle.records.specs.declared.band.QoSClass.TheVariants.{UserInteractive, RealTimeIO, Background}
 use Rattle.records.specs.declared.error.SchedError.TheVariants.{TableFull, QueueFull, NoSuchTask, AlreadyReady, AlreadyBlocked, NotBlocked}
 use Rattle.records.specs.declared.ids.Tid.{Tid}
@@ -20,7 +20,7 @@ use Rattle.records.specs.Lists.{every_below, first_place}
 use Rattle.records.specs.Mask.{permits, stored_mask}
 use Rattle.records.specs.ThreadState.{state_code, coded_state}
 use Rattle.records.specs.Task.{empty_record, created, terminated, blocked, picked}
-use Rattle.queue.specs.Entries.{full, takes, pushed, without, entry_at, taken_at}
+use Rattle.queue.specs.Entries.{full, takes, push_result, pushed, without, entry_at, taken_at}
 use Rattle.rules.specs.declared.answer.ContextSwitchTarget.TheVariants as target
 use Rattle.rules.specs.declared.answer.Value.{Value}
 use Rattle.rules.specs.declared.answer.Value.TheVariants as value
@@ -298,6 +298,7 @@ pub record Figures : Type 0 where
   -- the queue: 2 where "64 entries stand in it"
   pub queue_full : map full (replicate 63 0 ∷ replicate 64 0 ∷ []) ≡ false ∷ true ∷ []
   pub queue_slots : map (λ (n : ℕ). takes n []) (63 ∷ 64 ∷ []) ≡ true ∷ false ∷ []
+  pub queue_answers : push_result 63 [] ∷ push_result 63 (replicate 64 0) ∷ push_result 64 [] ∷ [] ≡ Ok tt ∷ Err QueueFull ∷ Err NoSuchTask ∷ []
   -- "Numbers 1 to 6 are the Rust's `TableFull`, `QueueFull`, `NoSuchTask`, `AlreadyReady`, `AlreadyBlocked` and `NotBlocked`."
   pub refusals : map error_code (TableFull ∷ QueueFull ∷ NoSuchTask ∷ AlreadyReady ∷ AlreadyBlocked ∷ NotBlocked ∷ []) ≡ 1 ∷ 2 ∷ 3 ∷ 4 ∷ 5 ∷ 6 ∷ []
 
@@ -389,5 +390,6 @@ figures = record {
   lengths_refused = refl;
   queue_full = refl;
   queue_slots = refl;
+  queue_answers = refl;
   refusals = refl;
 }

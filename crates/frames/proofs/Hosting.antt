@@ -7,7 +7,8 @@ use native.Mathlib.Omega.{arith}
 use borrow.Author.Tests.{lt-ltb, le-ltb}
 use lib.Dec.{eqb}
 use lib.ListN.{length}
-use Rattle.std.specs.Prelude.{Option, None, Some, Result, Ok, Err, is_ok, ok_or}
+use Rattle.std.specs.Prelude.{Option, None, Some, Result, Ok, Err, is_ok}
+use Rattle.std.proofs.lemmas.List.Edits.{sets}
 use Rattle.records.specs.declared.error.SchedError.{SchedError}
 use Rattle.rules.specs.declared.answer.Answer.{Answer}
 use Rattle.rules.specs.declared.call.Call.{Call}
@@ -26,7 +27,7 @@ use Rattle.frames.specs.AcceptedImage.{AcceptedImage, accepts_image}
 use Rattle.frames.specs.Answer.{answer_bytes}
 use Rattle.frames.specs.Bytes.{Puts}
 use Rattle.frames.specs.Frame.{frame_call}
-use Rattle.frames.specs.Host.{host_number, refusal_returned, made, answer_room, on_image, called_in, call_on_image, first_image, host_new, Hosted, hosted, host_refused, host_answered, host_called, host_step}
+use Rattle.frames.specs.Host.{host_number, refusal_returned, made, answer_room, OnImage, on_image, called_in, call_on_image, first_image, host_new, Hosted, hosted, host_refused, host_called, host_step}
 use Rattle.frames.specs.Private.{CalledOn}
 use Rattle.frames.specs.ReadWrite.{image_status, WritesImage}
 use Rattle.frames.specs.Image.{image_length, image_of, state_at}
@@ -118,6 +119,18 @@ module _ (image answer : List ℕ) where
   on_tests false true c = refl
   on_tests false false c = refl
 
+  -- what a host gets of what a call on the image came to
+  abbrev told : Result Answer HostError → List ℕ → Hosted
+  told (Err e) after = host_refused e after answer
+  told (Ok a) after = hosted (length (answer_bytes a)) after (sets answer 0 (answer_bytes a))
+
+  abbrev host_of : OnImage → Hosted
+  host_of o = told o.answer o.image
+
+  on_call : (call : Call) (st : Result Unit HostError) → host_of (called_in st call image) ≡ host_on st (Some call)
+  on_call call (Err e) = refl
+  on_call call (Ok _) = refl
+
 -- the ways out of `frame_on_image`
 module _ (image frame answer : List ℕ) where
   pub step_short : length answer < answer_room → hosted (refusal_returned WrongLength) image answer ≡ host_step image frame answer
@@ -131,25 +144,27 @@ module _ (image frame answer : List ℕ) where
         sym (rw (le-ltb (length answer) answer_room h)
         (on_tests image answer (not (eqb (length image) image_length)) (not (accepts_image image)) (frame_call frame)))
 
+    at_status : {st : Result Unit HostError} {c : Option Call} → image_status image ≡ st → frame_call frame ≡ c → host_on image answer st c ≡ host_step image frame answer
+    at_status is decoded = sym (λ i. host_on image answer (is i) (decoded i)) ∙ by_status
+
+    -- no call was made: the image is refused, or the frame
     pub step_refused : {e : HostError} → image_status image ≡ Err e → hosted (refusal_returned e) image answer ≡ host_step image frame answer
-    step_refused is = ap (λ (st : Result Unit HostError). host_on image answer st (frame_call frame)) (sym is) ∙ by_status
+    step_refused is = at_status is refl
 
-    module _ (accepted : image_status image ≡ Ok tt) where
-      by_frame : host_called (frame_call frame) image answer ≡ host_step image frame answer
-      by_frame = ap (λ (st : Result Unit HostError). host_on image answer st (frame_call frame)) (sym accepted) ∙ by_status
+    pub step_none : image_status image ≡ Ok tt → frame_call frame ≡ None → hosted (refusal_returned NoFrame) image answer ≡ host_step image frame answer
+    step_none = at_status
 
-      pub step_none : {e : HostError} → ◌≡◌ {A = Result Call HostError} (Err e) (ok_or (frame_call frame) NoFrame) →
-          hosted (refusal_returned e) image answer ≡ host_step image frame answer
-      step_none {e} refused = no_frame (frame_call frame) refused ∙ by_frame
-        where
-          no_frame : (c : Option Call) → ◌≡◌ {A = Result Call HostError} (Err e) (ok_or c NoFrame) → hosted (refusal_returned e) image answer ≡ host_called c image answer
-          no_frame None is = let same : e ≡ NoFrame = cc in ap (λ (f : HostError). hosted (refusal_returned f) image answer) same
-          no_frame (Some call) is = let never : ◌≡◌ {A = ℕ} 0 1 = cc in absurd (omega arith)
+    -- a call on the image was
+    module _ {call : Call} (decoded : frame_call frame ≡ Some call) {r : Result Answer HostError} {after : List ℕ}
+        (called : on_image r after ≡ call_on_image call image) where
+      by_call : told image answer r after ≡ host_step image frame answer
+      unfolding call_on_image
+      by_call = ap (host_of image answer) called ∙ on_call image answer call (image_status image) ∙ at_status refl decoded
 
-      pub step_answered : {call : Call} {after out : List ℕ} {a : Answer} {n : ℕ} → frame_call frame ≡ Some call → CalledOn call image after a →
-          Puts (answer_bytes a) 0 answer out n → hosted n after out ≡ host_step image frame answer
-      step_answered {call} some on puts =
-          (λ i. hosted (puts.length_is i) (on.image_is i) (puts.buffer_is i))
-          ∙ (λ i. host_answered (record { answer = on.answer_is i; state = (step call (state_at image)).state }) answer)
-          ∙ ap (λ (c : Option Call). host_called c image answer) (sym some)
-          ∙ by_frame
+    pub step_call_refused : {call : Call} {after : List ℕ} {e : HostError} → frame_call frame ≡ Some call → on_image (Err e) after ≡ call_on_image call image →
+        hosted (refusal_returned e) after answer ≡ host_step image frame answer
+    step_call_refused decoded called = by_call decoded called
+
+    pub step_answered : {call : Call} {after out : List ℕ} {a : Answer} {n : ℕ} → frame_call frame ≡ Some call → on_image (Ok a) after ≡ call_on_image call image →
+        Puts (answer_bytes a) 0 answer out n → hosted n after out ≡ host_step image frame answer
+    step_answered {after = after} decoded called puts = (λ i. hosted (puts.length_is i) after (puts.buffer_is i)) ∙ by_call decoded called

@@ -1,9 +1,10 @@
 -- What the reader and the writer of images promise: 7 and 8 for what is no image, the state that an accepted image stands for, and the image of a
 -- state.
 use Rattle.std.specs.Prelude.{◌≡◌, cond, not, List, ℕ, eqb, length, Result, Ok, Err, MatchResult}
-use Rattle.rules.specs.State.{State}
+use Rattle.rules.specs.State.{State, new_state}
 use Rattle.scheduler.specs.declared.scheduler.QoSScheduler.{QoSScheduler}
 use Rattle.scheduler.specs.Scheduler.{abs}
+use Rattle.frames.specs.declared.read.RefusedImage.{RefusedImage}
 use Rattle.frames.specs.declared.refusal.HostError.{HostError}
 use Rattle.frames.specs.declared.refusal.HostError.TheVariants.{WrongLength, NotAccepted}
 use Rattle.frames.specs.AcceptedImage.{accepts_image}
@@ -23,9 +24,14 @@ pub record ReadAs (image : List ℕ) (s : QoSScheduler) : Type 0 where
   pub accepted : image_status image ≡ Ok tt
   pub state_is : abs s ≡ state_at image
 
--- what the reader promises of any bytes: that scheduler, or the image's refusal
-abbrev pub ReadsImage : List ℕ → Result QoSScheduler HostError → Type 0
-ReadsImage image r = MatchResult r (ReadAs image) (λ e. image_status image ≡ Err e)
+-- the image's refusal, and the new scheduler
+pub record RefusedAs (image : List ℕ) (r : RefusedImage) : Type 0 where
+  pub status_is : image_status image ≡ Err r.error
+  pub state_is : abs r.state ≡ new_state
+
+-- what the reader promises of any bytes: the scheduler that they stand for, or their refusal with the new one
+abbrev pub ReadsImage : List ℕ → Result QoSScheduler RefusedImage → Type 0
+ReadsImage image r = MatchResult r (ReadAs image) (RefusedAs image)
 
 -- ---- writing an image
 

@@ -36,9 +36,11 @@ pub fn frame_on_image(image: &mut [u8], frame: &[u8], answer: &mut [u8]) -> Resu
     if answer.len() < ANSWER_MAX {
         return Err(HostError::WrongLength);
     }
-    check_image(image)?;
-    let call = read_frame(frame).ok_or(HostError::NoFrame)?;
-    Ok(write_answer(call_on_accepted(image, call), answer))
+    let Some(call) = read_frame(frame) else {
+        check_image(image)?;
+        return Err(HostError::NoFrame);
+    };
+    Ok(write_answer(call_on_image(image, call)?, answer))
 }
 
 // What a host gets: an answer's length, or 256 and the refusal's number.

@@ -53,8 +53,10 @@ pub(crate) fn update_image(
 fn put_rest(state: &QoSScheduler, image: &mut [u8])
     ensures { image.new ≡ with_rest (abs state.now) image.old }
 {
+    // a copy, which the compiler knows apart from the image, so that the archive asks for no memmove
+    let holders = state.current;
     put_queues(&state.queues, image);
-    put_bytes(&state.current, image, HOLDERS_AT);
+    put_bytes(&holders, image, HOLDERS_AT);
     put_number(image, MICROS_AT, 8, state.system_ticks_us);
 }
 

@@ -49,6 +49,6 @@ pub use host::{call_on_image, frame_on_image, returned, write_new_image};
 pub use image::write_image;
 pub use layout::IMAGE_BYTES;
 pub use lines::{ANSWER_LINE_MAX, next_line, read_line};
-pub use read::{check_image, read_image};
+pub use read::{RefusedImage, check_image, read_image};
 pub use refusal::HostError;
 pub use stream::{Fed, Stream};

@@ -20,12 +20,24 @@ use records::{BAND_COUNT, QoSClass};
 use scheduler::QoSScheduler;
 use std::array::from_fn;
 
-// The scheduler that an image stands for, from any bytes. Refused as `check_image` does it.
-pub fn read_image(image: &[u8]) -> Result<QoSScheduler, HostError>
+// What becomes of bytes that are refused: why, as `check_image` tells it, and the scheduler that they are read as, the new one.
+#[derive(Clone, Copy)]
+pub struct RefusedImage {
+    pub error: HostError,
+    pub state: QoSScheduler,
+}
+
+// The scheduler that an image stands for, from any bytes; the new one, where they are refused.
+pub fn read_image(image: &[u8]) -> Result<QoSScheduler, RefusedImage>
     ensures { ReadsImage image.now result }
 {
-    let image = accepted(image)?;
-    Ok(state_at(image))
+    match accepted(image) {
+        Ok(image) => Ok(state_at(image)),
+        Err(error) => Err(RefusedImage {
+            error,
+            state: QoSScheduler::new(),
+        }),
+    }
 }
 
 // Whether bytes are an image that is accepted, or why not: 7 for their number, which is looked at first, or 8 for their contents.

@@ -9,13 +9,13 @@ use Rattle.records.specs.declared.ids.Slot.{Slot}
 abbrev pub full : List ℕ → Bool
 full es = leb 64 (length es)
 
--- what a push answers: 3 for a number that is no slot of the table, 2 where the queue is full
-abbrev pub push_result : ℕ → List ℕ → Result Unit SchedError
-push_result slot es = cond (ltb slot 64) (cond (full es) (Err QueueFull) (Ok tt)) (Err NoSuchTask)
-
 -- a push is taken: the number is a slot of the table, and the queue has room
 abbrev pub takes : ℕ → List ℕ → Bool
 takes slot es = ltb slot 64 && not (full es)
+
+-- what a push answers: where it is not taken, 2 for a slot of the table, for which there is no room, and 3 for a number that is none
+abbrev pub push_result : ℕ → List ℕ → Result Unit SchedError
+push_result slot es = cond (takes slot es) (Ok tt) (Err (cond (ltb slot 64) QueueFull NoSuchTask))
 
 -- enqueue: "goes to the tail of its band"; a push that is not taken changes nothing
 unfoldable pub pushed : ℕ → List ℕ → List ℕ

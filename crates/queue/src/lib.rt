@@ -53,6 +53,7 @@ impl BandQueue {
 
     // The slot goes to the tail. Refused, with the entries as they were, for a number that is no slot of the table and
     // where 64 entries stand in the queue.
+    #[tactic(auto, using(crate::proofs::Pushes::takes_full, crate::proofs::Pushes::pushed_full))]
     pub fn push(&mut self, slot: Slot) -> Result<(), SchedError>
         ensures { Push self.old slot result self.new }
     {

@@ -1,11 +1,15 @@
--- The states: their codes are below 4; reading a code gives back the state that has it, and only codes are read; states with one code are one state.
+-- The states: their codes are below 4; reading a code gives back the state that has it, and only codes are read; states with one code are one
+-- state, and the derived `==` says whether they are.
 -- Assumes nothing.
 use mathlib.Core.Path.{◌≡◌, refl, sym, ap, ◌∙◌}
 use mathlib.Core.Bool.{true}
 use Prim.Native.Nat.{ℕ, ◌≤◌, ◌<◌}
 use native.Mathlib.Omega.{arith}
+use borrow.Author.Rules.{rules}
 use borrow.Author.Tests.{eqb-true, eq-eqb}
+use denote.Enum.Bare.{sameb}
 use lib.ListN.{get_or-eq_default}
+use Rattle.records.specs.contracts.state.ThreadState.{the_type}
 use Rattle.records.specs.declared.state.ThreadState.{ThreadState}
 use Rattle.records.specs.declared.state.ThreadState.TheVariants.{Ready, Running, Blocked, Terminated}
 use Rattle.std.specs.Prelude.{Some, None}
@@ -34,3 +38,7 @@ is_state_true s t e =
     let codes : state_code s ≡ state_code t = eqb-true (state_code s) (state_code t) e in
     let same : Some s ≡ Some t = sym (coded_state_code s) ∙ ap coded_state codes ∙ coded_state_code t in
     cc
+
+-- what the derived `==` answers
+pub same_state-is : (one other : ThreadState) → sameb the_type one other ≡ is_state one other
+same_state-is one other = search rules

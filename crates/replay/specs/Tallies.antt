@@ -1,6 +1,5 @@
 -- What a line does: what it adds to the counts of lists, calls compared and differences, and what becomes of the stream.
 use Rattle.std.specs.Prelude.{◌≡◌, ℕ, ◌+◌, ◌%◌, ◌^◌, Bool, true, false, cond, List, [], ◌∷◌, ◌==◌, Option, None, Some, option_map, IsSome}
-use Rattle.std.specs.Vec.{vec_items}
 use Rattle.scheduler.specs.Scheduler.{abs}
 use Rattle.rules.specs.State.{new_state}
 use Rattle.frames.specs.Stream.{FedSoFar, fed_by, held_in, longest_answer}
@@ -31,7 +30,7 @@ with_list k = record { lists = more k.lists; calls = k.calls; differences = k.di
 
 -- the answer that waits, if one does
 abbrev pub waiting_in : Replay → Option (List ℕ)
-waiting_in r = option_map vec_items r.waiting
+waiting_in r = option_map (λ answer. answer.items) r.waiting
 
 -- A line: the stored answer to the last frame, where an answer waits; else a list's name, or a frame.
 abbrev pub with_line : Option (List ℕ) → List ℕ → Counts → Counts
@@ -48,11 +47,16 @@ pub record BeginsList (r : Replay) : Type 0 where
 abbrev pub fed_frame : Replay → List ℕ → FedSoFar
 fed_frame before line = fed_by false before.stream line longest_answer
 
--- a frame is fed to the stream, and its answer waits
+-- an answer waits, where there is any
+abbrev pub waiting_of : List ℕ → Option (List ℕ)
+waiting_of [] = None
+waiting_of (b ∷ text) = Some (b ∷ text)
+
+-- a frame is fed to the stream, and its answer waits once its newline has come
 pub record FeedsFrame (before : Replay) (line : List ℕ) (after : Replay) : Type 0 where
   pub state_is : abs after.stream.state ≡ (fed_frame before line).state
   pub held_is : held_in after.stream ≡ (fed_frame before line).held
-  pub waits : waiting_in after ≡ Some (fed_frame before line).text
+  pub waits : waiting_in after ≡ waiting_of (fed_frame before line).text
   pub counts_are : after.counts ≡ before.counts
 
 -- what becomes of the stream and of what waits, by the kind of line

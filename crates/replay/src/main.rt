@@ -5,15 +5,18 @@
 // that the Rust has no part in. oracle/README.md says how the lists were made. The last line counts what was compared.
 #![tactic(auto)]
 
-ghost use Rattle.std.specs.Prelude.{◌≡◌, OnOk};
+ghost use Rattle.std.specs.Prelude.{◌≡◌};
 ghost use Rattle.replay.specs.Tallies.{is_name, none_counted, with_answer, BeginsList, FeedsFrame, Replays};
 ghost use Rattle.replay.specs.Comparing.{as_stored};
 
+use arrayvec::ArrayVec;
 use frames::{ANSWER_LINE_MAX, Stream};
 use scheduler::QoSScheduler;
-use std::alloc::{AllocError, Global};
-use std::io::{BufRead, BufReader, Write};
-use std::{fmt, io};
+use std::fmt;
+use text::Input;
+
+// No stored line is longer. What follows so many bytes of a line is a line of its own.
+const STORED_MAX: usize = 256;
 
 // What begins a list's name.
 const NAME: u8 = b'=';
@@ -26,7 +29,7 @@ const ANY: u8 = b'.';
 struct Replay {
     stream: Stream,
     // The last frame's answer, where the stored one comes next.
-    waiting: Option<Vec<u8>>,
+    waiting: Option<ArrayVec<u8, ANSWER_LINE_MAX>>,
     counts: Counts,
 }
 
@@ -38,16 +41,19 @@ struct Counts {
     differences: u64,
 }
 
-fn main(rt: HostRuntime) -> io::Result<()> {
+fn main(rt: HostRuntime) {
     let mut replay = Replay::new();
-    // not `lines`, which would take a carriage return off that makes a line no frame
-    for line in BufReader::new(rt.alloc(), rt.reader())?.split(rt.alloc(), b'\n') {
-        let mut line = line?;
-        // a stream answers a line when its newline comes
-        line.push(b'\n')?;
-        replay.line(&rt, line.as_slice())?;
+    let mut input = Input::new(rt.stdin());
+    let mut line = [0; STORED_MAX];
+    // a proved loop has to end, and nothing says that the input does: so it is given more turns than any run uses up
+    for _ in 0..u64::MAX {
+        let n = input.read_line(&mut line);
+        if n == 0 {
+            break;
+        }
+        replay.line(&rt, &line[..n]);
     }
-    println!(rt; "{}", replay.counts)
+    let _ = println!(rt; "{}", replay.counts); // where that fails there is nobody to tell
 }
 
 impl Replay {
@@ -66,9 +72,9 @@ impl Replay {
         }
     }
 
-    // One line, with its newline: the stored answer to the last frame, or a list's name, or a frame.
-    fn line(&mut self, rt: &(impl Print + AllocGlobal), line: &[u8]) -> io::Result<()>
-        ensures { OnOk result (Replays self.old line.now self.new) }
+    // One line, with its newline if it has one: the stored answer to the last frame, or a list's name, or a frame.
+    fn line(&mut self, rt: &impl Print, line: &[u8])
+        ensures { Replays self.old line.now self.new }
     {
         if let Some(answer) = self.waiting.take() {
             return self.counts.compare(rt, answer.as_slice(), line);
@@ -76,20 +82,20 @@ impl Replay {
         if is_name(line) {
             self.stream = Stream::new(QoSScheduler::new());
             self.counts.lists = self.counts.lists.wrapping_add(1);
-            return Ok(());
+            return;
         }
-        Ok(self.answer(rt.alloc(), line)?)
+        self.answer(line);
     }
 
-    // A frame's answer waits.
-    fn answer(&mut self, alloc: Global, line: &[u8]) -> Result<(), AllocError>
-        ensures { OnOk result (FeedsFrame self.old line.now self.new) }
+    // A frame's answer waits, if the line ends the frame: a stream answers when its newline comes.
+    fn answer(&mut self, line: &[u8])
+        ensures { FeedsFrame self.old line.now self.new }
     {
-        let mut answer = [0; ANSWER_LINE_MAX];
-        let fed = self.stream.feed(line, false, &mut answer);
+        let mut answer = ArrayVec::from([0; ANSWER_LINE_MAX]);
+        let fed = self.stream.feed(line, false, answer.as_mut_slice());
         self.stream = fed.stream;
-        self.waiting = Some(answer[..fed.written].to_vec(alloc)?);
-        Ok(())
+        answer.truncate(fed.written);
+        self.waiting = (!answer.is_empty()).then_some(answer);
     }
 }
 
@@ -102,20 +108,20 @@ fn is_name(line: &[u8]) -> bool
 
 impl Counts {
     // An answer, held against the stored one; a difference is printed with its list and its call, both counted from 1, and with
-    // both answers, which end in newlines.
-    fn compare(&mut self, rt: &impl Print, answer: &[u8], stored: &[u8]) -> io::Result<()>
-        ensures { OnOk result (self.new ≡ with_answer (as_stored answer.now stored.now) self.old) }
+    // both answers, which end in newlines. A write that fails is passed over, since all that follows is compared and counted
+    // whether it can be told or not.
+    fn compare(&mut self, rt: &impl Print, answer: &[u8], stored: &[u8])
+        ensures { self.new ≡ with_answer (as_stored answer.now stored.now) self.old }
     {
         self.calls = self.calls.wrapping_add(1);
         if is_as_stored(answer, stored) {
-            return Ok(());
+            return;
         }
         self.differences = self.differences.wrapping_add(1);
-        print!(rt; "list {}, call {}: stored ", self.lists, self.calls)?;
-        let mut out = io::writer(rt);
-        out.write_all(stored)?;
-        out.write_all(b"found ")?;
-        out.write_all(answer)
+        let _ = print!(rt; "list {}, call {}: stored ", self.lists, self.calls);
+        let _ = rt.write_all(stored);
+        let _ = rt.write_all(b"found ");
+        let _ = rt.write_all(answer);
     }
 }
 

@@ -1,6 +1,6 @@
 -- The stored scheduler's arrays read as the state that they hold, which is accepted in every scheduler: records, holders, queues; and three
 -- queues with some of them replaced. Assumes nothing.
-use Rattle.std.proofs.Common.{◌≡◌, ℕ, ◌<◌, List, [], ◌∷◌, length, get_or, set, refl, ap, ◌∙◌, arith}
+use Rattle.std.proofs.Common.{◌≡◌, ℕ, zero, suc, ◌<◌, List, [], ◌∷◌, length, get_or, set, refl, ap, ◌∙◌, arith}
 use Rattle.std.proofs.lemmas.List.{get_or_default}
 use Rattle.std.specs.Prelude.{Result}
 use Rattle.records.specs.declared.band.QoSClass.{QoSClass}
@@ -14,7 +14,7 @@ use Rattle.queue.specs.Entries.{push_result, pushed}
 use Rattle.queue.specs.Promises.{Push}
 use Rattle.queue.specs.Stored.{entries}
 use Rattle.rules.specs.Accepted.{Accepted}
-use Rattle.rules.specs.State.{task, of_band, with_band, queue, holder}
+use Rattle.rules.specs.State.{band_order, task, of_band, with_band, queue, holder}
 use Rattle.rules.proofs.Accepts.{accepts_sound}
 use Rattle.rules.proofs.Invariant.{Invariant, accepted-invariant}
 use Rattle.scheduler.specs.declared.scheduler.QoSScheduler.{QoSScheduler}
@@ -49,6 +49,17 @@ module _ (s : QoSScheduler) where
 
 -- ---- three queues
 
+-- the band at a place of the order has that place for its code
+pub order_at : (n : ℕ) (d : QoSClass) → n < 3 → n ≡ band_code (get_or band_order n d)
+order_at zero d low = refl
+order_at (suc zero) d low = refl
+order_at (suc (suc zero)) d low = refl
+order_at (suc (suc (suc n))) d low = absurd (omega arith)
+
+-- a place among the three is a band's
+pub band-at : (n : ℕ) → n < 3 → (b : QoSClass) × (n ≡ band_code b)
+band-at n low = (get_or band_order n Background, order_at n Background low)
+
 three : (P : List BandQueue → Type 0) → ((a b c : BandQueue) → P (a ∷ b ∷ c ∷ [])) → (qs : List BandQueue) → length qs ≡ 3 → P qs
 three P are [] l = absurd (omega arith)
 three P are (a ∷ []) l = absurd (omega arith)
@@ -75,15 +86,17 @@ module _ (qs : List BandQueue) (all : length qs ≡ 3) (b : QoSClass) {place : �
   entries_of d =
       rw is (three (λ (l : List BandQueue). entries (get_or l (band_code b) d) ≡ of_band (queues_of l) b) (λ x y z. entries_in b x y z d) qs all)
 
-  queue_put : (q : BandQueue) → queues_of (set qs place q) ≡ with_band (queues_of qs) b (entries q)
-  queue_put q =
+  -- it becomes one that holds these entries
+  pub queue_put : (q : BandQueue) {es : List ℕ} → entries q ≡ es → queues_of (set qs place q) ≡ with_band (queues_of qs) b es
+  queue_put q holds =
       rw is (three (λ (l : List BandQueue). queues_of (set l (band_code b) q) ≡ with_band (queues_of l) b (entries q))
       (λ x y z. put_in b x y z q) qs all)
+      ∙ ap (with_band (queues_of qs) b) holds
 
-  -- it becomes another, which holds what f makes of its entries
+  -- or what f makes of its own
   pub queue_changed : (d : BandQueue) (f : List ℕ → List ℕ) (q : BandQueue) → entries q ≡ f (entries (get_or qs place d)) →
       queues_of (set qs place q) ≡ with_band (queues_of qs) b (f (of_band (queues_of qs) b))
-  queue_changed d f q e = queue_put q ∙ ap (with_band (queues_of qs) b) (e ∙ ap f (entries_of d))
+  queue_changed d f q e = queue_put q (e ∙ ap f (entries_of d))
 
 -- ---- a band's queue in a scheduler
 

@@ -1,14 +1,19 @@
 -- The stored scheduler put together: three queues, what its ghost field asks for, and a scheduler for every accepted state. Assumes nothing.
 use Rattle.std.proofs.Common.{◌≡◌, true, ℕ, List, [], ◌∷◌, length, get_or, set, refl, ap, ◌∙◌}
+use Rattle.std.specs.Prelude.{Result}
+use Rattle.records.specs.declared.error.SchedError.{SchedError}
+use Rattle.records.specs.declared.ids.Slot.{Slot}
 use Rattle.records.specs.declared.task.TaskControlBlock.{TaskControlBlock}
-use Rattle.records.specs.Band.{band_code}
+use Rattle.records.specs.Band.{band_code, IsBandCode}
 use Rattle.records.specs.declared.band.QoSClass.{QoSClass}
 use Rattle.records.specs.declared.band.QoSClass.TheVariants.{UserInteractive, RealTimeIO, Background}
 use Rattle.queue.specs.declared.BandQueue.{BandQueue}
+use Rattle.queue.specs.Entries.{pushed}
+use Rattle.queue.specs.Promises.{Push}
 use Rattle.queue.specs.Stored.{entries}
 use Rattle.queue.proofs.Stored.{stored}
 use Rattle.rules.specs.Accepted.{Accepted, accepts}
-use Rattle.rules.specs.State.{State, Queues, queue, with_task, with_queues, with_queue, with_holders, with_holder, with_micros}
+use Rattle.rules.specs.State.{State, Queues, task, queue, with_task, with_queues, with_queue, with_holders, with_holder, with_micros}
 use Rattle.rules.proofs.Accepts.{accepts_complete}
 use Rattle.scheduler.specs.declared.scheduler.QoSScheduler.{QoSScheduler}
 use Rattle.scheduler.specs.Stored.{queues_of, state_of}
@@ -66,3 +71,14 @@ module _ {tasks : List TaskControlBlock} (queues : List BandQueue) {current : Li
   put_queue_lem all b is dq f q e =
       ap (λ (qs : Queues). record { tasks = tasks; queues = qs; holders = current; micros = micros }) (queue_changed queues all b is dq f q e)
       ∙ (λ i. with_queue (holds i) b (f (queue (holds i) b)))
+
+  -- a slot goes to the tail of its band, and its record, which was read as t, becomes what f makes of it
+  module _ (all : length queues ≡ 3) (slot : Slot) {t : TaskControlBlock} (t-is : t ≡ task now slot.0) {n : ℕ} (code : IsBandCode t.qos n)
+      (dq : BandQueue) {a : Result Unit SchedError} {q : BandQueue} (push : Push (get_or queues n dq) slot a q)
+      (f : TaskControlBlock → TaskControlBlock) where
+    abbrev tailed : TaskControlBlock → State
+    tailed r = with_task (with_queue now r.qos (pushed slot.0 (queue now r.qos))) slot.0 (f r)
+
+    pub put_tail : {u : TaskControlBlock} → u ≡ f t → state_of (set tasks slot.0 u) (set queues n q) current micros ≡ tailed (task now slot.0)
+    put_tail u-is =
+        (λ i. with_task (put_queue_lem all t.qos code.is dq (pushed slot.0) q push.entries_are i) slot.0 (u-is i)) ∙ ap tailed t-is

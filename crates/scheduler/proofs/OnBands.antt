@@ -1,6 +1,6 @@
 -- Rule P as the code goes through it: a band's queue is looked through for an entry that may use the core, the bands in their order; the first
 -- one found leaves its queue and runs. Assumes nothing.
-use Rattle.std.proofs.Common.{◌≡◌, ℕ, zero, suc, ◌<◌, ◌≤◌, Bool, true, false, List, length, get_or, set, sym, refl, ap, ◌∙◌, subst, arith, get_or-set_same, lt-ltb, le-ltb}
+use Rattle.std.proofs.Common.{◌≡◌, ℕ, ◌<◌, ◌≤◌, Bool, true, false, List, length, get_or, set, sym, refl, ap, ◌∙◌, subst, arith, get_or-set_same, lt-ltb, le-ltb}
 use borrow.Author.Tests.{ltb-false}
 use Rattle.std.specs.Prelude.{Option, None, Some}
 use Rattle.records.specs.declared.band.QoSClass.{QoSClass}
@@ -93,13 +93,6 @@ module _ (s : QoSScheduler) (core : ℕ) (band : QoSClass) {n : ℕ} (code : n �
       entry_fails fails = may ∙ fails
 
 -- ---- the bands in their order
-
--- the band at a place of the order has that place for its code
-pub band_at : (n : ℕ) (d : QoSClass) → n < 3 → n ≡ band_code (get_or band_order n d)
-band_at zero d low = refl
-band_at (suc zero) d low = refl
-band_at (suc (suc zero)) d low = refl
-band_at (suc (suc (suc n))) d low = absurd (omega arith)
 
 -- no band before this place has an entry that may use the core
 abbrev pub NoBandBefore : State → ℕ → ℕ → Type 0

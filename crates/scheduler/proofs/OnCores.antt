@@ -47,7 +47,8 @@ use Rattle.scheduler.specs.Private.{Gives, answer_in, who_runs}
 use Rattle.scheduler.specs.declared.scheduler.Reply.{Reply}
 use Rattle.scheduler.specs.Scheduler.{abs, Meets}
 use Rattle.scheduler.specs.Stored.{state_of}
-use Rattle.scheduler.proofs.Arrays.{valid, known, record_at_lem, push_answer, push_queues}
+use Rattle.scheduler.proofs.Arrays.{valid, known, record_at_lem, push_answer}
+use Rattle.scheduler.proofs.Builders.{put_tail}
 use Rattle.scheduler.proofs.OnSlots.{so, so_not}
 use Rattle.scheduler.proofs.Promises.{unharmed, meets_given, gives-chosen}
 
@@ -214,14 +215,7 @@ module _ (s : QoSScheduler) (core : ℕ) (low : core < 64) where
 
         tailed : (micros : ℕ) → state_of (set s.tasks h.0 u) (set s.queues n q) s.current micros ≡ tailed_with (task (abs s) h.0) micros
         unfolding abs
-        tailed micros =
-            (λ i. record {
-              tasks = set s.tasks h.0 (u-is i);
-              queues = push_queues s read.qos code.is dq push i;
-              holders = s.current;
-              micros = micros;
-            })
-            ∙ ap (λ (t : TaskControlBlock). tailed_with t micros) (sym read_is)
+        tailed micros = put_tail s.queues refl s.bands h (sym read_is) code dq push f u-is
 
       -- ---- tick
 

@@ -2,7 +2,6 @@
 -- holders as they are then. Assumes nothing.
 use Rattle.std.proofs.Common.{◌≡◌, ℕ, ◌<◌, ◌≤◌, Bool, true, false, cond, not, ltb, leb, List, map, refl, sym, ap, ◌∙◌, arith, lt-ltb, le-leb, le-ltb}
 use borrow.Author.Tests.{lt-leb, leb-true, leb-false}
-use borrow.Author.Rules.{rules}
 use denote.Enum.Bare.{sameb}
 use Rattle.std.specs.Prelude.{Option, None, Some, Result, Ok, Err, is_some}
 use Rattle.records.specs.contracts.state.ThreadState.{the_type}
@@ -18,6 +17,7 @@ use Rattle.records.specs.Mask.{stored_mask}
 use Rattle.records.specs.Task.{created, with_mask, with_state, blocked, terminated}
 use Rattle.records.specs.ThreadState.{is_state}
 use Rattle.records.proofs.Cases.{split, neither}
+use Rattle.records.proofs.States.{same_state-is}
 use Rattle.queue.specs.Entries.{full, push_result, pushed, without}
 use Rattle.queue.proofs.Entries.{takes-slot, pushed-refused}
 use Rattle.rules.specs.declared.answer.Value.TheVariants as value
@@ -46,14 +46,11 @@ found_some place e = let r = some_if (leb 64 place) e in (sym r.1, omega (arith,
 
 -- ---- two states compared
 
-sameb-is : (one other : ThreadState) → sameb the_type one other ≡ is_state one other
-sameb-is one other = search rules
-
 pub so : (one other : ThreadState) {b : Bool} → b ≡ sameb the_type one other → is_state one other ≡ b
-so one other is = sym (is ∙ sameb-is one other)
+so one other is = sym (is ∙ same_state-is one other)
 
 pub so_not : (one other : ThreadState) {b : Bool} → b ≡ not (sameb the_type one other) → not (is_state one other) ≡ b
-so_not one other is = sym (is ∙ ap not (sameb-is one other))
+so_not one other is = sym (is ∙ ap not (same_state-is one other))
 
 -- ---- whether a core holds the slot
 
@@ -141,17 +138,17 @@ module _ (s : State) (slot : ℕ) where
 
   push_refused : slot < 64 → (es : List ℕ) {e : SchedError} → Err e ≡ push_result slot es → (full es ≡ true) × (e ≡ QueueFull)
   push_refused low es {e} answer =
-      split (λ (b : Bool). ◌≡◌ {A = Result Unit SchedError} (Err e) (cond b (Err QueueFull) (Ok tt)) → (b ≡ true) × (e ≡ QueueFull)) (full es)
+      split (λ (b : Bool). ◌≡◌ {A = Result Unit SchedError} (Err e) (cond (not b) (Ok tt) (Err QueueFull)) → (b ≡ true) × (e ≡ QueueFull)) (full es)
       (λ _ same. (refl, cc))
       (λ _ same. let never : ◌≡◌ {A = ℕ} 0 1 = cc in absurd (omega arith))
-      (answer ∙ ap (λ (b : Bool). cond b (cond (full es) (Err QueueFull) (Ok tt)) (Err NoSuchTask)) (lt-ltb slot 64 low))
+      (rw (lt-ltb slot 64 low) at answer)
 
   push_done : slot < 64 → (es : List ℕ) {x : Unit} → Ok x ≡ push_result slot es → full es ≡ false
   push_done low es {x} answer =
-      split (λ (b : Bool). ◌≡◌ {A = Result Unit SchedError} (Ok x) (cond b (Err QueueFull) (Ok tt)) → b ≡ false) (full es)
+      split (λ (b : Bool). ◌≡◌ {A = Result Unit SchedError} (Ok x) (cond (not b) (Ok tt) (Err QueueFull)) → b ≡ false) (full es)
       (λ _ same. let never : ◌≡◌ {A = ℕ} 0 1 = cc in absurd (omega arith))
       (λ _ same. refl)
-      (answer ∙ ap (λ (b : Bool). cond b (cond (full es) (Err QueueFull) (Ok tt)) (Err NoSuchTask)) (lt-ltb slot 64 low))
+      (rw (lt-ltb slot 64 low) at answer)
 
   module _ {t : TaskControlBlock} (read : Some t ≡ in_use_at slot s) where
     here : missing s slot ≡ false

@@ -2,14 +2,16 @@
 //
 // Each method begins with its refusals, in the order of document 01's table. A call takes the state by value, so that a refusal
 // is a Reply with the state in it, which `?` can't make of an error: what several methods test alike stands in each.
-ghost use Rattle.std.specs.Prelude.{◌≡◌};
+ghost use Rattle.std.specs.Prelude.{◌≡◌, map};
 ghost use Rattle.rules.specs.Waking.{released};
 ghost use Rattle.scheduler.specs.Scheduler.{Meets, abs};
 ghost use Rattle.scheduler.specs.Private.{OutOf, in_use_at};
 
 use crate::scheduler::{NO_HOLDER, QoSScheduler, Reply};
 use queue::BandQueue;
-use records::{BAND_COUNT, QoSClass, SchedError, Slot, TaskControlBlock, ThreadState, Tid};
+use records::{
+    BAND_COUNT, MAX_CPUS, QoSClass, SchedError, Slot, TaskControlBlock, ThreadState, Tid,
+};
 use rules::{Call, Value};
 
 impl QoSScheduler {
@@ -60,7 +62,7 @@ impl QoSScheduler {
         };
         self.tasks[slot.0] = task.terminated();
         out_of_queues(&mut self.queues, slot);
-        self.current = self.current.map(|number| released(number, slot));
+        out_of_holders(&mut self.current, slot);
         self.told(Value::Nothing)
     }
 
@@ -132,6 +134,15 @@ fn out_of_queues(queues: &mut [BandQueue; BAND_COUNT], slot: Slot)
 {
     for queue in queues.iter_mut() {
         queue.remove(slot);
+    }
+}
+
+// The slot is held by no core. A loop and not `map`, which the compiler does not turn into a few wide steps.
+fn out_of_holders(current: &mut [u8; MAX_CPUS], slot: Slot)
+    ensures { current.new ≡ map (released slot.0) current.old }
+{
+    for number in current.iter_mut() {
+        *number = released(*number, slot);
     }
 }
 

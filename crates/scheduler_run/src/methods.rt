@@ -2,10 +2,9 @@
 // scheduler, beside what `apply` makes of the same call.
 use crate::begun::busy;
 use crate::outcome::same_reply;
-use crate::show::{Written, not_unless};
+use crate::show::{Written, not_unless, print_line};
 use records::{QoSClass, Slot, Tid};
 use scheduler::{Answer, Call, QoSScheduler, Reply, Value};
-use std::io;
 
 // Between them they go by every method.
 #[rattlefmt::skip]
@@ -35,14 +34,16 @@ const CALLS: [Call; 22] = [
 ];
 
 // A line each, with the method's name, its answer as document 01 writes it, and whether answer and state are those of `apply`.
-pub(crate) fn methods(rt: &impl Print) -> io::Result<()> {
+pub(crate) fn methods(rt: &impl Print) {
     let state = busy();
     for call in CALLS {
         let (name, reply) = by_method(state, call);
         let not = not_unless(same_reply(&reply, &state.apply(call)));
-        println!(rt; "{name}: {}, {not}as by apply", Written(reply.answer))?;
+        print_line(
+            rt,
+            format_args!("{name}: {}, {not}as by apply", Written(reply.answer)),
+        );
     }
-    Ok(())
 }
 
 // A call by its method, and the method's name. A method without a core is for core 0, and one without an address space for 0.

@@ -2,9 +2,9 @@
 // on. 64 tasks in three bands; slots 0 to 65 and cores 0, 21, 42, 63 and 84 are named, so that there are some too large.
 use crate::begun::{after, crowd};
 use crate::outcome::Asked;
+use crate::show::print_line;
 use records::{BAND_COUNT, QoSClass, Slot, Tid};
 use scheduler::Call;
-use std::io;
 use text::yes_or_no;
 
 const ROUNDS: u64 = 5_000;
@@ -15,7 +15,7 @@ const MANY: u64 = 500;
 // All cores, or cores 0 and 42, or cores 21 and 63.
 const MASKS: [u64; 3] = [0, 4_398_046_511_105, 9_223_372_036_856_872_960];
 
-pub(crate) fn rounds(rt: &impl Print) -> io::Result<()> {
+pub(crate) fn rounds(rt: &impl Print) {
     let mut state = crowd();
     let mut number = Number(1);
     let mut blocks: u64 = 0;
@@ -31,10 +31,19 @@ pub(crate) fn rounds(rt: &impl Print) -> io::Result<()> {
         state = lent.tick.state;
         number = number.following();
     }
-    println!(rt; "Rounds: {ROUNDS}")?;
-    println!(rt; "Many of them block: {}", yes_or_no(blocks > MANY))?;
-    println!(rt; "Many of them pick: {}", yes_or_no(picks > MANY))?;
-    println!(rt; "Rounds that are not as by value: {differences}")
+    print_line(rt, format_args!("Rounds: {ROUNDS}"));
+    print_line(
+        rt,
+        format_args!("Many of them block: {}", yes_or_no(blocks > MANY)),
+    );
+    print_line(
+        rt,
+        format_args!("Many of them pick: {}", yes_or_no(picks > MANY)),
+    );
+    print_line(
+        rt,
+        format_args!("Rounds that are not as by value: {differences}"),
+    );
 }
 
 // A number of a list that looks like chance, and what a round does by it.

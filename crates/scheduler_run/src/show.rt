@@ -31,6 +31,11 @@ impl fmt::Display for Told {
     }
 }
 
+// A line of its own. A write that fails is passed over: there is nobody to tell, and what follows is tried all the same.
+pub(crate) fn print_line(rt: &impl Print, line: impl fmt::Display + Drop) {
+    let _ = println!(rt; "{line}");
+}
+
 // What stands before a claim that holds, and before one that does not.
 pub(crate) fn not_unless(holds: bool) -> &'static str {
     if holds { "" } else { "NOT " }

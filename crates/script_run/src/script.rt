@@ -2,8 +2,8 @@
 use crate::operation::Order;
 use crate::said::Said;
 use frames::{
-    ANSWER_MAX, HostError, accepts_image, call_on_image, check_image, frame_on_image, read_frame,
-    read_image, returned, write_answer, write_image, write_new_image,
+    ANSWER_MAX, HostError, RefusedImage, accepts_image, call_on_image, check_image, frame_on_image,
+    read_frame, read_image, returned, write_answer, write_image, write_new_image,
 };
 use scheduler::QoSScheduler;
 use text::{behind, front, is_same};
@@ -81,7 +81,7 @@ impl Script {
             Order::Same => return Said::Same(self.space == self.kept),
             Order::Buffer => return Said::Bytes(front(&self.buffer, ANSWER_MAX)),
             Order::Part(at, n) => return Said::Bytes(front(behind(&self.space, *at), *n)),
-            Order::Fresh => self.state = QoSScheduler::new(),
+            Order::Fresh => self.fresh(),
             Order::Length(n) => self.length = *n,
             Order::Fill => self.space = [MARK; SPACE],
             Order::Keep => self.kept = self.space,
@@ -116,6 +116,8 @@ impl Script {
     }
 
     fn apply(&mut self, frame: &[u8]) -> Result<usize, Refusal> {
+        // without an image no call is made, on the scheduler either
+        let _image = self.image()?;
         let call = read_frame(frame).ok_or(Refusal::NotDone)?;
         let reply = self.state.apply(call);
         self.state = reply.state;
@@ -149,15 +151,26 @@ impl Script {
         self.space.get_mut(..n).ok_or(Refusal::NotDone)
     }
 
-    // Where the image is refused, there is a new scheduler.
+    // Where the image would be longer than the space, the scheduler stays.
     fn read(&mut self) -> Said<'_> {
+        let (state, reader) = match self.space.get(..self.length).map(|image| read_image(image)) {
+            None => (self.state, Refusal::NotDone.number()),
+            Some(Ok(state)) => (state, 0),
+            Some(Err(RefusedImage { error, state })) => (state, error.code()),
+        };
+        self.state = state;
         let image = front(&self.space, self.length);
-        let read = read_image(image);
-        self.state = read.unwrap_or(QoSScheduler::new());
         Said::Judged {
             accepted: accepts_image(image),
-            check: code(check_image(image)),
-            reader: code(read),
+            check: check_image(image).err().map_or(0, HostError::code),
+            reader,
+        }
+    }
+
+    // A new scheduler, but not where the image would be longer than the space.
+    fn fresh(&mut self) {
+        if self.image().is_ok() {
+            self.state = QoSScheduler::new();
         }
     }
 
@@ -168,9 +181,4 @@ impl Script {
             *place = *byte;
         }
     }
-}
-
-// 0 for an image that is accepted, and a refusal's number: scripts expect numbers.
-fn code<T: Drop>(answered: Result<T, HostError>) -> u64 {
-    answered.err().map_or(0, HostError::code)
 }

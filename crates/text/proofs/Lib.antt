@@ -1,0 +1,2 @@
+-- Laws of what is put behind a line.
+pub mod Pieces
