@@ -20,11 +20,20 @@ use records::{BAND_COUNT, QoSClass};
 use scheduler::QoSScheduler;
 use std::array::from_fn;
 
-// What becomes of bytes that are refused: why, as `check_image` tells it, and the scheduler that they are read as, the new one.
+// What bytes that are refused come to: why, as `check_image` tells it, and the scheduler that they are read as, which is the new one.
 #[derive(Clone, Copy)]
 pub struct RefusedImage {
     pub error: HostError,
     pub state: QoSScheduler,
+}
+
+// For who has no use for the new scheduler: `?` hands the refusal on.
+impl From<RefusedImage> for HostError {
+    ghost from_gives = { λ refused error. error ≡ refused.error };
+
+    fn from(refused: RefusedImage) -> HostError {
+        refused.error
+    }
 }
 
 // The scheduler that an image stands for, from any bytes; the new one, where they are refused.

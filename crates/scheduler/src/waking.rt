@@ -137,7 +137,7 @@ fn out_of_queues(queues: &mut [BandQueue; BAND_COUNT], slot: Slot)
     }
 }
 
-// The slot is held by no core. A loop and not `map`, which the compiler does not turn into a few wide steps.
+// The slot is held by no core. This is a loop because the compiler goes through a `map` over an array byte by byte.
 fn out_of_holders(current: &mut [u8; MAX_CPUS], slot: Slot)
     ensures { current.new ≡ map (released slot.0) current.old }
 {

@@ -47,7 +47,7 @@ impl Refusal {
     }
 }
 
-// By hand, since an error by thiserror would have a text that nobody prints.
+// So that `?` hands on what a host is told.
 impl From<HostError> for Refusal {
     fn from(error: HostError) -> Refusal {
         Refusal::Host(error)

@@ -10,7 +10,7 @@ const BYTES_MAX: usize = 300;
 // The bytes that an operation takes.
 pub(crate) type Bytes = ArrayVec<u8, BYTES_MAX>;
 
-// Where a number of a script ends: it has one digit more than this at most, and any zeros in front.
+// Where a number of a script ends: it has as many digits as this at most, and any zeros in front.
 const LARGE: usize = 10_000;
 
 // What stands in front of the first such byte, all where there is none; and what stands behind it.

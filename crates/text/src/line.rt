@@ -11,7 +11,7 @@ use std::marker::Model;
 const LINE_MAX: usize = 1024;
 
 // Contracts see a line as its text.
-#[derive(Drop)]
+#[derive(Clone, Drop)]
 pub struct Line {
     text: ArrayVec<u8, LINE_MAX>,
 }
