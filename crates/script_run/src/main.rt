@@ -40,7 +40,7 @@ fn main(rt: HostRuntime) {
         operations: 0,
         differences: 0,
     };
-    let mut input = Input::new(rt.reader());
+    let mut input = Input::new(rt.stdin());
     let mut line = [0; LINE_MAX];
     // counted, since a proved loop has to end and nothing says that the input does
     for number in 1..u64::MAX {
