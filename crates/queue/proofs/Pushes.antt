@@ -34,7 +34,7 @@ module _ (q : BandQueue) (slot : Slot) (there : slot.0 < 64) where
   pub pushed_full : 64 ≤ q.len → pushed slot.0 (entries q) ≡ entries q
   pushed_full stands = pushed-refused slot.0 (entries q) (takes_full stands)
 
-  -- 64 entries stand in it: both together, which the check of `push` puts together by itself
+  -- 64 entries stand in it; for `push` the check finds this by the two above
   pub push_full : 64 ≤ q.len → Push q slot (Err QueueFull) q
   push_full stands = record {
     answer_is = rw (lt-ltb slot.0 64 there, is_full stands);

@@ -68,8 +68,8 @@ impl QoSScheduler {
     }
 
     // Any call or query, as the method for it does it: a match names all of them, the two of `apply` too. A query leaves the
-    // state as it was. It has a frame of its own on the stack, so that a report does not need the room of the other calls as well,
-    // and is lent the state, so that it is not copied into that frame as well as by the method.
+    // state as it was. It has a frame of its own on the stack, so that a report does not need the room of the other calls as well.
+    // The state is lent to it, since the method begins with a copy anyway.
     #[inline(never)]
     fn apply_any(&self, call: Call) -> Reply
         ensures { Meets call self.now result }

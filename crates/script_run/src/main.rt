@@ -20,7 +20,7 @@ mod words;
 use operation::Order;
 use script::Script;
 use std::fmt::Write;
-use text::{Input, Line, behind, front};
+use text::{Input, Line, behind};
 use words::{cut_at, trimmed};
 
 // A longer line of a script is several lines, each of so many bytes.
@@ -48,7 +48,7 @@ fn main(rt: HostRuntime) {
         if n == 0 {
             break;
         }
-        run.line(&rt, number, front(&line, n));
+        run.line(&rt, number, &line[..n]);
     }
     let _ = println!(rt;
         "{} operations, {} differences",
